@@ -9,8 +9,8 @@ pub loop-i-init : goal.loop-i-init
 loop-i-init c = (omega arith, refl, refl)
 
 pub loop-i-preserved : goal.loop-i-preserved
-loop-i-preserved c = let args = c.args in
-    let turn = sets_turn args.to.now args.from.now c.loop-i.i 0 (omega arith) in
+loop-i-preserved c =
+    let turn = sets_turn c.args.to.now c.args.from.now c.loop-i.i 0 (omega arith) in
     (omega arith, (cc), simp length-set (omega arith))
 
 pub returns : goal.returns

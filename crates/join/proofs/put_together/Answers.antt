@@ -76,25 +76,22 @@ overflow_add-middle c =
 
 pub put_words-next-requires : goal.put_words-next-requires
 put_words-next-requires c =
-    let list_two : List ℕ = c.put_nodes-middle.new.words in
     let behind : c.put_words-behind.result ≡ c.args.one.middle = behind_is _ _ c.requires.may_put c.put_words-behind.ensures.put in
     let middle : c.put_nodes-middle.result ≡ c.args.one.middle + (c.args.two.middle - 2) = between_is _ _ c.requires.may_put _ _ behind c.put_nodes-middle.ensures.put in
     let size_one : length c.put_words-behind.new.words ≡ length c.args.words.now = c.put_words-behind.ensures.put.size ∙ head_length c.args.words.now c.args.one.version c.index_word.result in
-    let size_two : length list_two ≡ length c.args.words.now = c.put_nodes-middle.ensures.put.size ∙ size_one in
-    record { may_put = may_servers_one _ _ c.requires.may_put _ (length-set list_two c.put_nodes-middle.result c.index_word-2.result ∙ size_two) (omega (arith, middle)) }
+    let size_two : length c.put_nodes-middle.new.words ≡ length c.args.words.now = c.put_nodes-middle.ensures.put.size ∙ size_one in
+    record { may_put = may_servers_one _ _ c.requires.may_put _ (length-set c.put_nodes-middle.new.words c.put_nodes-middle.result c.index_word-2.result ∙ size_two) (omega (arith, middle)) }
 
 pub overflow_add-two : goal.overflow_add-two
 overflow_add-two c = omega (arith, (fits_two _ _ c.requires.may_put).inner, (hut_small c.requires.may_put.second).words.1)
 
 pub put_servers-requires : goal.put_servers-requires
 put_servers-requires c =
-    let list_two : List ℕ = c.put_nodes-middle.new.words in
-    let list_three : List ℕ = c.put_words-next.new.words in
     let behind : c.put_words-behind.result ≡ c.args.one.middle = behind_is _ _ c.requires.may_put c.put_words-behind.ensures.put in
     let middle : c.put_nodes-middle.result ≡ c.args.one.middle + (c.args.two.middle - 2) = between_is _ _ c.requires.may_put _ _ behind c.put_nodes-middle.ensures.put in
     let size_one : length c.put_words-behind.new.words ≡ length c.args.words.now = c.put_words-behind.ensures.put.size ∙ head_length c.args.words.now c.args.one.version c.index_word.result in
-    let size_two : length list_two ≡ length c.args.words.now = c.put_nodes-middle.ensures.put.size ∙ size_one in
-    let size_three : length list_three ≡ length c.args.words.now = c.put_words-next.ensures.put.size ∙ length-set list_two c.put_nodes-middle.result c.index_word-2.result ∙ size_two in
+    let size_two : length c.put_nodes-middle.new.words ≡ length c.args.words.now = c.put_nodes-middle.ensures.put.size ∙ size_one in
+    let size_three : length c.put_words-next.new.words ≡ length c.args.words.now = c.put_words-next.ensures.put.size ∙ length-set c.put_nodes-middle.new.words c.put_nodes-middle.result c.index_word-2.result ∙ size_two in
     record {
       may_put = may_servers_two _ _ c.requires.may_put _ size_three (omega (arith, next_is _ _ c.requires.may_put c.put_words-next.ensures.put, middle));
       fits = (omega (arith, c.index_word-by.ensures.result, (fits_one _ _ c.requires.may_put).nodes), hut_below c.requires.may_put.second);
@@ -102,26 +99,23 @@ put_servers-requires c =
 
 pub shape_of-words : goal.shape_of-words
 shape_of-words c =
-    let list_two : List ℕ = c.put_nodes-middle.new.words in
-    let list_three : List ℕ = c.put_words-next.new.words in
     let size_one : length c.put_words-behind.new.words ≡ length c.args.words.now = c.put_words-behind.ensures.put.size ∙ head_length c.args.words.now c.args.one.version c.index_word.result in
-    let size_two : length list_two ≡ length c.args.words.now = c.put_nodes-middle.ensures.put.size ∙ size_one in
-    let size_three : length list_three ≡ length c.args.words.now = c.put_words-next.ensures.put.size ∙ length-set list_two c.put_nodes-middle.result c.index_word-2.result ∙ size_two in
+    let size_two : length c.put_nodes-middle.new.words ≡ length c.args.words.now = c.put_nodes-middle.ensures.put.size ∙ size_one in
+    let size_three : length c.put_words-next.new.words ≡ length c.args.words.now = c.put_words-next.ensures.put.size ∙ length-set c.put_nodes-middle.new.words c.put_nodes-middle.result c.index_word-2.result ∙ size_two in
     c.put_servers.ensures.put.size ∙ size_three
 
 pub returns : goal.returns
 returns c =
-    let list_two : List ℕ = c.put_nodes-middle.new.words in
     let behind : c.put_words-behind.result ≡ c.args.one.middle = behind_is _ _ c.requires.may_put c.put_words-behind.ensures.put in
     let middle : c.put_nodes-middle.result ≡ c.args.one.middle + (c.args.two.middle - 2) = between_is _ _ c.requires.may_put _ _ behind c.put_nodes-middle.ensures.put in
     let size_one : length c.put_words-behind.new.words ≡ length c.args.words.now = c.put_words-behind.ensures.put.size ∙ head_length c.args.words.now c.args.one.version c.index_word.result in
-    let size_two : length list_two ≡ length c.args.words.now = c.put_nodes-middle.ensures.put.size ∙ size_one in
-    let room_left : c.put_nodes-middle.result < length list_two = omega (arith, middle, (fits_one _ _ c.requires.may_put).inner, (fits_two _ _ c.requires.may_put).two, (fits_two _ _ c.requires.may_put).inner, c.requires.may_put.space, size_two) in
+    let size_two : length c.put_nodes-middle.new.words ≡ length c.args.words.now = c.put_nodes-middle.ensures.put.size ∙ size_one in
+    let room_left : c.put_nodes-middle.result < length c.put_nodes-middle.new.words = omega (arith, middle, (fits_one _ _ c.requires.may_put).inner, (fits_two _ _ c.requires.may_put).two, (fits_two _ _ c.requires.may_put).inner, c.requires.may_put.space, size_two) in
     record {
       writes =
           let space = has_space _ _ c.requires.may_put in
           together _ _ c.requires.may_put c.node_width-width.ensures.is.0 c.index_word-by.ensures.result
           c.index_word.ensures.result c.index_word-2.ensures.result
-          c.args.words.now list_two c.put_nodes-middle.result (omega (arith, space.0, space.1, space.2)) room_left
+          c.args.words.now c.put_nodes-middle.new.words c.put_nodes-middle.result (omega (arith, space.0, space.1, space.2)) room_left
           c.put_words-behind.ensures.put c.put_nodes-middle.ensures.put c.put_words-next.ensures.put c.put_servers.ensures.put;
     }

@@ -19,101 +19,88 @@ use Rattle.figures.proofs.Fronts.{equal_length, front_length, Lent, lent-zeros, 
 use Rattle.deals.specs.Wants.{first_wants}
 use Rattle.judge_totals.specs.Totals.{Compared}
 use Rattle.judge_totals.proofs.Noting.{given_few, compared}
-use Rattle.judge.specs.Lists.{NodesGiven, CordsPass}
+use Rattle.judge.specs.Lists.{CordsPass}
 use Rattle.judge.proofs.Judging.{RoomNodes, found_within, node_lists, cord-lists, is_over, is-short, is_passes}
 use Rattle.judge.proofs.judge_nodes.Goals as goal
 
 pub slice_bounds-load_nodes-end : goal.slice_bounds-load_nodes-end
 slice_bounds-load_nodes-end c =
-    let given_a : NodesGiven c.args.table.now c.args.nodes c.args.beneath.now = c.requires.table in
-    let nodes-fit : c.args.nodes ≤ most_nodes = let g = given_a.good_table in
-    omega (arith, given_a.nodes-fit g.value g.next g.is, (accepted c.args.table.now g.value g.next g.is).few_nodes) in
-    let beneath_long : c.args.nodes ≤ length c.args.beneath.now = omega (arith, nodes-fit, given_a.beneath_long) in
+    let nodes-fit : c.args.nodes ≤ most_nodes = let g = c.requires.table.good_table in
+    omega (arith, c.requires.table.nodes-fit g.value g.next g.is, (accepted c.args.table.now g.value g.next g.is).few_nodes) in
+    let beneath_long : c.args.nodes ≤ length c.args.beneath.now = omega (arith, nodes-fit, c.requires.table.beneath_long) in
     front_length _ _ beneath_long
 
 pub slice_bounds-parents-end : goal.slice_bounds-parents-end
 slice_bounds-parents-end c =
-    let given_a : NodesGiven c.args.table.now c.args.nodes c.args.beneath.now = c.requires.table in
-    let nodes-fit : c.args.nodes ≤ most_nodes = let g = given_a.good_table in
-    omega (arith, given_a.nodes-fit g.value g.next g.is, (accepted c.args.table.now g.value g.next g.is).few_nodes) in
+    let nodes-fit : c.args.nodes ≤ most_nodes = let g = c.requires.table.good_table in
+    omega (arith, c.requires.table.nodes-fit g.value g.next g.is, (accepted c.args.table.now g.value g.next g.is).few_nodes) in
     omega (arith, nodes-fit, equal_length {A = ℕ} most_nodes 0)
 
 pub slice_bounds-load_nodes-end-2 : goal.slice_bounds-load_nodes-end-2
 slice_bounds-load_nodes-end-2 c =
-    let given_a : NodesGiven c.args.table.now c.args.nodes c.args.beneath.now = c.requires.table in
-    let nodes-fit : c.args.nodes ≤ most_nodes = let g = given_a.good_table in
-    omega (arith, given_a.nodes-fit g.value g.next g.is, (accepted c.args.table.now g.value g.next g.is).few_nodes) in
+    let nodes-fit : c.args.nodes ≤ most_nodes = let g = c.requires.table.good_table in
+    omega (arith, c.requires.table.nodes-fit g.value g.next g.is, (accepted c.args.table.now g.value g.next g.is).few_nodes) in
     sym (zeros-front most_nodes _ nodes-fit)
 
 pub slice_bounds-spare-end : goal.slice_bounds-spare-end
 slice_bounds-spare-end c =
-    let given_a : NodesGiven c.args.table.now c.args.nodes c.args.beneath.now = c.requires.table in
-    let nodes-fit : c.args.nodes ≤ most_nodes = let g = given_a.good_table in
-    omega (arith, given_a.nodes-fit g.value g.next g.is, (accepted c.args.table.now g.value g.next g.is).few_nodes) in
+    let nodes-fit : c.args.nodes ≤ most_nodes = let g = c.requires.table.good_table in
+    omega (arith, c.requires.table.nodes-fit g.value g.next g.is, (accepted c.args.table.now g.value g.next g.is).few_nodes) in
     omega (arith, nodes-fit, equal_length {A = ℕ} most_nodes 0)
 
 pub slice_bounds-load_nodes-end-3 : goal.slice_bounds-load_nodes-end-3
 slice_bounds-load_nodes-end-3 c =
-    let given_a : NodesGiven c.args.table.now c.args.nodes c.args.beneath.now = c.requires.table in
-    let nodes-fit : c.args.nodes ≤ most_nodes = let g = given_a.good_table in
-    omega (arith, given_a.nodes-fit g.value g.next g.is, (accepted c.args.table.now g.value g.next g.is).few_nodes) in
+    let nodes-fit : c.args.nodes ≤ most_nodes = let g = c.requires.table.good_table in
+    omega (arith, c.requires.table.nodes-fit g.value g.next g.is, (accepted c.args.table.now g.value g.next g.is).few_nodes) in
     sym (zeros-front most_nodes _ nodes-fit)
 
 pub load_nodes-requires : goal.load_nodes-requires
 load_nodes-requires c =
-    let given_a : NodesGiven c.args.table.now c.args.nodes c.args.beneath.now = c.requires.table in
-    let nodes-fit : c.args.nodes ≤ most_nodes = let g = given_a.good_table in
-    omega (arith, given_a.nodes-fit g.value g.next g.is, (accepted c.args.table.now g.value g.next g.is).few_nodes) in
-    let beneath_long : c.args.nodes ≤ length c.args.beneath.now = omega (arith, nodes-fit, given_a.beneath_long) in
-    let fit = given_a.nodes-fit in
-    let few = nodes-fit in
+    let nodes-fit : c.args.nodes ≤ most_nodes = let g = c.requires.table.good_table in
+    omega (arith, c.requires.table.nodes-fit g.value g.next g.is, (accepted c.args.table.now g.value g.next g.is).few_nodes) in
+    let beneath_long : c.args.nodes ≤ length c.args.beneath.now = omega (arith, nodes-fit, c.requires.table.beneath_long) in
     record {
-      good = given_a.good_table;
+      good = c.requires.table.good_table;
       lists = (
-        λ r end is. sym (front_length _ _ beneath_long) ∙ fit r end is,
-        λ r end is. zeros-front most_nodes _ few ∙ fit r end is,
-        λ r end is. zeros-front most_nodes _ few ∙ fit r end is,
-        λ r end is i l. get_or-take c.args.nodes c.args.beneath.now i 0 (omega (arith, fit r end is)) ∙ given_a.beneath_is r end is i l,
+        λ r end is. sym (front_length _ _ beneath_long) ∙ c.requires.table.nodes-fit r end is,
+        λ r end is. zeros-front most_nodes _ nodes-fit ∙ c.requires.table.nodes-fit r end is,
+        λ r end is. zeros-front most_nodes _ nodes-fit ∙ c.requires.table.nodes-fit r end is,
+        λ r end is i l. get_or-take c.args.nodes c.args.beneath.now i 0 (omega (arith, c.requires.table.nodes-fit r end is)) ∙ c.requires.table.beneath_is r end is i l,
       );
     }
 
 pub slice_bounds-parents-end-2 : goal.slice_bounds-parents-end-2
 slice_bounds-parents-end-2 c =
-    let given_a : NodesGiven c.args.table.now c.args.nodes c.args.beneath.now = c.requires.table in
-    let nodes-fit : c.args.nodes ≤ most_nodes = let g = given_a.good_table in
-    omega (arith, given_a.nodes-fit g.value g.next g.is, (accepted c.args.table.now g.value g.next g.is).few_nodes) in
+    let nodes-fit : c.args.nodes ≤ most_nodes = let g = c.requires.table.good_table in
+    omega (arith, c.requires.table.nodes-fit g.value g.next g.is, (accepted c.args.table.now g.value g.next g.is).few_nodes) in
     let parents_lent : Lent c.args.nodes (replicate most_nodes 0) c.load_nodes.new.parents = lent-zeros most_nodes nodes-fit c.load_nodes.auto.parents in
     lent_few parents_lent
 
 pub slice_bounds-note_nodes-end : goal.slice_bounds-note_nodes-end
 slice_bounds-note_nodes-end c =
-    let given_a : NodesGiven c.args.table.now c.args.nodes c.args.beneath.now = c.requires.table in
-    let nodes-fit : c.args.nodes ≤ most_nodes = let g = given_a.good_table in
-    omega (arith, given_a.nodes-fit g.value g.next g.is, (accepted c.args.table.now g.value g.next g.is).few_nodes) in
+    let nodes-fit : c.args.nodes ≤ most_nodes = let g = c.requires.table.good_table in
+    omega (arith, c.requires.table.nodes-fit g.value g.next g.is, (accepted c.args.table.now g.value g.next g.is).few_nodes) in
     let parents_lent : Lent c.args.nodes (replicate most_nodes 0) c.load_nodes.new.parents = lent-zeros most_nodes nodes-fit c.load_nodes.auto.parents in
     lent-front parents_lent
 
 pub slice_bounds-spare-end-2 : goal.slice_bounds-spare-end-2
 slice_bounds-spare-end-2 c =
-    let given_a : NodesGiven c.args.table.now c.args.nodes c.args.beneath.now = c.requires.table in
-    let nodes-fit : c.args.nodes ≤ most_nodes = let g = given_a.good_table in
-    omega (arith, given_a.nodes-fit g.value g.next g.is, (accepted c.args.table.now g.value g.next g.is).few_nodes) in
+    let nodes-fit : c.args.nodes ≤ most_nodes = let g = c.requires.table.good_table in
+    omega (arith, c.requires.table.nodes-fit g.value g.next g.is, (accepted c.args.table.now g.value g.next g.is).few_nodes) in
     let spare_lent : Lent c.args.nodes (replicate most_nodes 0) c.load_nodes.new.spare = lent-zeros most_nodes nodes-fit c.load_nodes.auto.spare in
     lent_few spare_lent
 
 pub slice_bounds-note_nodes-end-2 : goal.slice_bounds-note_nodes-end-2
 slice_bounds-note_nodes-end-2 c =
-    let given_a : NodesGiven c.args.table.now c.args.nodes c.args.beneath.now = c.requires.table in
-    let nodes-fit : c.args.nodes ≤ most_nodes = let g = given_a.good_table in
-    omega (arith, given_a.nodes-fit g.value g.next g.is, (accepted c.args.table.now g.value g.next g.is).few_nodes) in
+    let nodes-fit : c.args.nodes ≤ most_nodes = let g = c.requires.table.good_table in
+    omega (arith, c.requires.table.nodes-fit g.value g.next g.is, (accepted c.args.table.now g.value g.next g.is).few_nodes) in
     let spare_lent : Lent c.args.nodes (replicate most_nodes 0) c.load_nodes.new.spare = lent-zeros most_nodes nodes-fit c.load_nodes.auto.spare in
     lent-front spare_lent
 
 pub note_nodes-over-requires : goal.note_nodes-over-requires
 note_nodes-over-requires c =
-    let given_a : NodesGiven c.args.table.now c.args.nodes c.args.beneath.now = c.requires.table in
-    let nodes-fit : c.args.nodes ≤ most_nodes = let g = given_a.good_table in
-    omega (arith, given_a.nodes-fit g.value g.next g.is, (accepted c.args.table.now g.value g.next g.is).few_nodes) in
+    let nodes-fit : c.args.nodes ≤ most_nodes = let g = c.requires.table.good_table in
+    omega (arith, c.requires.table.nodes-fit g.value g.next g.is, (accepted c.args.table.now g.value g.next g.is).few_nodes) in
     let parents_lent : Lent c.args.nodes (replicate most_nodes 0) c.load_nodes.new.parents = lent-zeros most_nodes nodes-fit c.load_nodes.auto.parents in
     let spare_lent : Lent c.args.nodes (replicate most_nodes 0) c.load_nodes.new.spare = lent-zeros most_nodes nodes-fit c.load_nodes.auto.spare in
     let parents_at : List ℕ = take c.args.nodes (rejoined c.args.nodes (replicate most_nodes 0) c.load_nodes.new.parents) in
@@ -121,24 +108,21 @@ note_nodes-over-requires c =
     let nodes-at : (r : Room) (end : ℕ) → checked c.args.table.now 0 ≡ good r end → RoomNodes r parents_at spare_at = λ r end is. let of_nodes = c.load_nodes.ensures.laid_out r end is in
     rw (lent_again parents_lent, lent_again spare_lent)
     (record { parents_are = of_nodes.0; spare_size = spare_lent.size ∙ sym parents_lent.size; spare_is = of_nodes.1 }) in
-    let nodes_few : length parents_at ≤ most_nodes = let g = given_a.good_table in
+    let nodes_few : length parents_at ≤ most_nodes = let g = c.requires.table.good_table in
     (node_lists g.value (accepted _ g.value g.next g.is) (nodes-at g.value g.next g.is)).few in
-    let g = given_a.good_table in
-    let ok = accepted c.args.table.now g.value g.next g.is in
-    let lists = nodes-at g.value g.next g.is in
-    let pass = c.requires.noted.pass g.value g.next g.is in
-    let few = nodes_few in
+    let ok = accepted c.args.table.now c.requires.table.good_table.value c.requires.table.good_table.next c.requires.table.good_table.is in
+    let lists = nodes-at c.requires.table.good_table.value c.requires.table.good_table.next c.requires.table.good_table.is in
+    let pass = c.requires.noted.pass c.requires.table.good_table.value c.requires.table.good_table.next c.requires.table.good_table.is in
     record {
-      node_lists = node_lists g.value ok lists;
-      lengths = (omega (arith, few, c.requires.lengths.0), omega (arith, few, c.requires.lengths.0, c.requires.lengths.1), omega (arith, few, c.requires.lengths.0, c.requires.lengths.2));
-      sums_fit = given_few (node_lists g.value ok lists) (cord-lists g.value ok lists pass) c.args.given.now c.args.raised.now c.args.wanting.now pass.noted c.requires.lengths.0;
+      node_lists = node_lists c.requires.table.good_table.value ok lists;
+      lengths = (omega (arith, nodes_few, c.requires.lengths.0), omega (arith, nodes_few, c.requires.lengths.0, c.requires.lengths.1), omega (arith, nodes_few, c.requires.lengths.0, c.requires.lengths.2));
+      sums_fit = given_few (node_lists c.requires.table.good_table.value ok lists) (cord-lists c.requires.table.good_table.value ok lists pass) c.args.given.now c.args.raised.now c.args.wanting.now pass.noted c.requires.lengths.0;
     }
 
 pub returns-then-over-ne0 : goal.returns-then-over-ne0
 returns-then-over-ne0 c =
-    let given_a : NodesGiven c.args.table.now c.args.nodes c.args.beneath.now = c.requires.table in
-    let nodes-fit : c.args.nodes ≤ most_nodes = let g = given_a.good_table in
-    omega (arith, given_a.nodes-fit g.value g.next g.is, (accepted c.args.table.now g.value g.next g.is).few_nodes) in
+    let nodes-fit : c.args.nodes ≤ most_nodes = let g = c.requires.table.good_table in
+    omega (arith, c.requires.table.nodes-fit g.value g.next g.is, (accepted c.args.table.now g.value g.next g.is).few_nodes) in
     let parents_lent : Lent c.args.nodes (replicate most_nodes 0) c.load_nodes.new.parents = lent-zeros most_nodes nodes-fit c.load_nodes.auto.parents in
     let spare_lent : Lent c.args.nodes (replicate most_nodes 0) c.load_nodes.new.spare = lent-zeros most_nodes nodes-fit c.load_nodes.auto.spare in
     let parents_at : List ℕ = take c.args.nodes (rejoined c.args.nodes (replicate most_nodes 0) c.load_nodes.new.parents) in
@@ -159,25 +143,22 @@ returns-then-over-ne0 c =
 
 pub slice_bounds-parents-end-3 : goal.slice_bounds-parents-end-3
 slice_bounds-parents-end-3 c =
-    let given_a : NodesGiven c.args.table.now c.args.nodes c.args.beneath.now = c.requires.table in
-    let nodes-fit : c.args.nodes ≤ most_nodes = let g = given_a.good_table in
-    omega (arith, given_a.nodes-fit g.value g.next g.is, (accepted c.args.table.now g.value g.next g.is).few_nodes) in
+    let nodes-fit : c.args.nodes ≤ most_nodes = let g = c.requires.table.good_table in
+    omega (arith, c.requires.table.nodes-fit g.value g.next g.is, (accepted c.args.table.now g.value g.next g.is).few_nodes) in
     let parents_lent : Lent c.args.nodes (replicate most_nodes 0) c.load_nodes.new.parents = lent-zeros most_nodes nodes-fit c.load_nodes.auto.parents in
     lent_few parents_lent
 
 pub slice_bounds-lowest_marked-end : goal.slice_bounds-lowest_marked-end
 slice_bounds-lowest_marked-end c =
-    let given_a : NodesGiven c.args.table.now c.args.nodes c.args.beneath.now = c.requires.table in
-    let nodes-fit : c.args.nodes ≤ most_nodes = let g = given_a.good_table in
-    omega (arith, given_a.nodes-fit g.value g.next g.is, (accepted c.args.table.now g.value g.next g.is).few_nodes) in
+    let nodes-fit : c.args.nodes ≤ most_nodes = let g = c.requires.table.good_table in
+    omega (arith, c.requires.table.nodes-fit g.value g.next g.is, (accepted c.args.table.now g.value g.next g.is).few_nodes) in
     let parents_lent : Lent c.args.nodes (replicate most_nodes 0) c.load_nodes.new.parents = lent-zeros most_nodes nodes-fit c.load_nodes.auto.parents in
     lent-front parents_lent
 
 pub lowest_marked-root-requires : goal.lowest_marked-root-requires
 lowest_marked-root-requires c =
-    let given_a : NodesGiven c.args.table.now c.args.nodes c.args.beneath.now = c.requires.table in
-    let nodes-fit : c.args.nodes ≤ most_nodes = let g = given_a.good_table in
-    omega (arith, given_a.nodes-fit g.value g.next g.is, (accepted c.args.table.now g.value g.next g.is).few_nodes) in
+    let nodes-fit : c.args.nodes ≤ most_nodes = let g = c.requires.table.good_table in
+    omega (arith, c.requires.table.nodes-fit g.value g.next g.is, (accepted c.args.table.now g.value g.next g.is).few_nodes) in
     let parents_lent : Lent c.args.nodes (replicate most_nodes 0) c.load_nodes.new.parents = lent-zeros most_nodes nodes-fit c.load_nodes.auto.parents in
     let spare_lent : Lent c.args.nodes (replicate most_nodes 0) c.load_nodes.new.spare = lent-zeros most_nodes nodes-fit c.load_nodes.auto.spare in
     let parents_at : List ℕ = take c.args.nodes (rejoined c.args.nodes (replicate most_nodes 0) c.load_nodes.new.parents) in
@@ -185,16 +166,15 @@ lowest_marked-root-requires c =
     let nodes-at : (r : Room) (end : ℕ) → checked c.args.table.now 0 ≡ good r end → RoomNodes r parents_at spare_at = λ r end is. let of_nodes = c.load_nodes.ensures.laid_out r end is in
     rw (lent_again parents_lent, lent_again spare_lent)
     (record { parents_are = of_nodes.0; spare_size = spare_lent.size ∙ sym parents_lent.size; spare_is = of_nodes.1 }) in
-    let nodes_few : length parents_at ≤ most_nodes = let g = given_a.good_table in
+    let nodes_few : length parents_at ≤ most_nodes = let g = c.requires.table.good_table in
     (node_lists g.value (accepted _ g.value g.next g.is) (nodes-at g.value g.next g.is)).few in
     let wanting_long : length parents_at ≤ length c.note_nodes-over.new.wanting = omega (arith, nodes_few, c.requires.lengths.0, c.requires.lengths.2, c.note_nodes-over.auto.wanting) in
     record { lengths = wanting_long }
 
 pub offset_bounds-wanting-root : goal.offset_bounds-wanting-root
 offset_bounds-wanting-root c =
-    let given_a : NodesGiven c.args.table.now c.args.nodes c.args.beneath.now = c.requires.table in
-    let nodes-fit : c.args.nodes ≤ most_nodes = let g = given_a.good_table in
-    omega (arith, given_a.nodes-fit g.value g.next g.is, (accepted c.args.table.now g.value g.next g.is).few_nodes) in
+    let nodes-fit : c.args.nodes ≤ most_nodes = let g = c.requires.table.good_table in
+    omega (arith, c.requires.table.nodes-fit g.value g.next g.is, (accepted c.args.table.now g.value g.next g.is).few_nodes) in
     let parents_lent : Lent c.args.nodes (replicate most_nodes 0) c.load_nodes.new.parents = lent-zeros most_nodes nodes-fit c.load_nodes.auto.parents in
     let spare_lent : Lent c.args.nodes (replicate most_nodes 0) c.load_nodes.new.spare = lent-zeros most_nodes nodes-fit c.load_nodes.auto.spare in
     let parents_at : List ℕ = take c.args.nodes (rejoined c.args.nodes (replicate most_nodes 0) c.load_nodes.new.parents) in
@@ -202,16 +182,15 @@ offset_bounds-wanting-root c =
     let nodes-at : (r : Room) (end : ℕ) → checked c.args.table.now 0 ≡ good r end → RoomNodes r parents_at spare_at = λ r end is. let of_nodes = c.load_nodes.ensures.laid_out r end is in
     rw (lent_again parents_lent, lent_again spare_lent)
     (record { parents_are = of_nodes.0; spare_size = spare_lent.size ∙ sym parents_lent.size; spare_is = of_nodes.1 }) in
-    let nodes_few : length parents_at ≤ most_nodes = let g = given_a.good_table in
+    let nodes_few : length parents_at ≤ most_nodes = let g = c.requires.table.good_table in
     (node_lists g.value (accepted _ g.value g.next g.is) (nodes-at g.value g.next g.is)).few in
     let root_there : (c.lowest_marked-root.result ≡ 0 → ⊥) → c.lowest_marked-root.result - 1 < length parents_at = λ n. found_within _ _ c.lowest_marked-root.ensures.result n in
     omega (arith, root_there c.if-root-ne0.true, nodes_few)
 
 pub bounds-wanting-root : goal.bounds-wanting-root
 bounds-wanting-root c =
-    let given_a : NodesGiven c.args.table.now c.args.nodes c.args.beneath.now = c.requires.table in
-    let nodes-fit : c.args.nodes ≤ most_nodes = let g = given_a.good_table in
-    omega (arith, given_a.nodes-fit g.value g.next g.is, (accepted c.args.table.now g.value g.next g.is).few_nodes) in
+    let nodes-fit : c.args.nodes ≤ most_nodes = let g = c.requires.table.good_table in
+    omega (arith, c.requires.table.nodes-fit g.value g.next g.is, (accepted c.args.table.now g.value g.next g.is).few_nodes) in
     let parents_lent : Lent c.args.nodes (replicate most_nodes 0) c.load_nodes.new.parents = lent-zeros most_nodes nodes-fit c.load_nodes.auto.parents in
     let spare_lent : Lent c.args.nodes (replicate most_nodes 0) c.load_nodes.new.spare = lent-zeros most_nodes nodes-fit c.load_nodes.auto.spare in
     let parents_at : List ℕ = take c.args.nodes (rejoined c.args.nodes (replicate most_nodes 0) c.load_nodes.new.parents) in
@@ -219,7 +198,7 @@ bounds-wanting-root c =
     let nodes-at : (r : Room) (end : ℕ) → checked c.args.table.now 0 ≡ good r end → RoomNodes r parents_at spare_at = λ r end is. let of_nodes = c.load_nodes.ensures.laid_out r end is in
     rw (lent_again parents_lent, lent_again spare_lent)
     (record { parents_are = of_nodes.0; spare_size = spare_lent.size ∙ sym parents_lent.size; spare_is = of_nodes.1 }) in
-    let nodes_few : length parents_at ≤ most_nodes = let g = given_a.good_table in
+    let nodes_few : length parents_at ≤ most_nodes = let g = c.requires.table.good_table in
     (node_lists g.value (accepted _ g.value g.next g.is) (nodes-at g.value g.next g.is)).few in
     let wanting_long : length parents_at ≤ length c.note_nodes-over.new.wanting = omega (arith, nodes_few, c.requires.lengths.0, c.requires.lengths.2, c.note_nodes-over.auto.wanting) in
     let root_there : (c.lowest_marked-root.result ≡ 0 → ⊥) → c.lowest_marked-root.result - 1 < length parents_at = λ n. found_within _ _ c.lowest_marked-root.ensures.result n in
@@ -227,9 +206,8 @@ bounds-wanting-root c =
 
 pub returns-then-root-ne0 : goal.returns-then-root-ne0
 returns-then-root-ne0 c =
-    let given_a : NodesGiven c.args.table.now c.args.nodes c.args.beneath.now = c.requires.table in
-    let nodes-fit : c.args.nodes ≤ most_nodes = let g = given_a.good_table in
-    omega (arith, given_a.nodes-fit g.value g.next g.is, (accepted c.args.table.now g.value g.next g.is).few_nodes) in
+    let nodes-fit : c.args.nodes ≤ most_nodes = let g = c.requires.table.good_table in
+    omega (arith, c.requires.table.nodes-fit g.value g.next g.is, (accepted c.args.table.now g.value g.next g.is).few_nodes) in
     let parents_lent : Lent c.args.nodes (replicate most_nodes 0) c.load_nodes.new.parents = lent-zeros most_nodes nodes-fit c.load_nodes.auto.parents in
     let spare_lent : Lent c.args.nodes (replicate most_nodes 0) c.load_nodes.new.spare = lent-zeros most_nodes nodes-fit c.load_nodes.auto.spare in
     let parents_at : List ℕ = take c.args.nodes (rejoined c.args.nodes (replicate most_nodes 0) c.load_nodes.new.parents) in
@@ -250,9 +228,8 @@ returns-then-root-ne0 c =
 
 pub returns : goal.returns
 returns c =
-    let given_a : NodesGiven c.args.table.now c.args.nodes c.args.beneath.now = c.requires.table in
-    let nodes-fit : c.args.nodes ≤ most_nodes = let g = given_a.good_table in
-    omega (arith, given_a.nodes-fit g.value g.next g.is, (accepted c.args.table.now g.value g.next g.is).few_nodes) in
+    let nodes-fit : c.args.nodes ≤ most_nodes = let g = c.requires.table.good_table in
+    omega (arith, c.requires.table.nodes-fit g.value g.next g.is, (accepted c.args.table.now g.value g.next g.is).few_nodes) in
     let parents_lent : Lent c.args.nodes (replicate most_nodes 0) c.load_nodes.new.parents = lent-zeros most_nodes nodes-fit c.load_nodes.auto.parents in
     let spare_lent : Lent c.args.nodes (replicate most_nodes 0) c.load_nodes.new.spare = lent-zeros most_nodes nodes-fit c.load_nodes.auto.spare in
     let parents_at : List ℕ = take c.args.nodes (rejoined c.args.nodes (replicate most_nodes 0) c.load_nodes.new.parents) in

@@ -3,8 +3,7 @@
 -- ---- What is known of a server, and of a cord
 -- ---- The needs
 use mathlib.Core.Path.{refl, sym, ◌∙◌}
-use mathlib.Core.List.{List}
-use Prim.Native.Nat.{ℕ, ◌+◌}
+use Prim.Native.Nat.{◌+◌}
 use native.Mathlib.Omega.{arith}
 use lib.ListN.{get_or}
 use Rattle.rooms.proofs.Walk.{ServerHere}
@@ -18,38 +17,32 @@ loop-v-init c =
 
 pub offset_bounds-table-start : goal.offset_bounds-table-start
 offset_bounds-table-start c =
-    let table : List ℕ = c.args.table.now in
-    let standing : ServerHere table c.loop-v.invariant.room c.loop-v.v c.loop-v.start c.loop-v.first = walking_server c.loop-v.invariant c.loop-v-test.true in
+    let standing : ServerHere c.args.table.now c.loop-v.invariant.room c.loop-v.v c.loop-v.start c.loop-v.first = walking_server c.loop-v.invariant c.loop-v-test.true in
     omega (arith, standing.there)
 
 pub bounds-table-start : goal.bounds-table-start
 bounds-table-start c =
-    let table : List ℕ = c.args.table.now in
-    let standing : ServerHere table c.loop-v.invariant.room c.loop-v.v c.loop-v.start c.loop-v.first = walking_server c.loop-v.invariant c.loop-v-test.true in
+    let standing : ServerHere c.args.table.now c.loop-v.invariant.room c.loop-v.v c.loop-v.start c.loop-v.first = walking_server c.loop-v.invariant c.loop-v-test.true in
     omega (arith, standing.there)
 
 pub short-rank-requires : goal.short-rank-requires
 short-rank-requires c =
-    let table : List ℕ = c.args.table.now in
-    let standing : ServerHere table c.loop-v.invariant.room c.loop-v.v c.loop-v.start c.loop-v.first = walking_server c.loop-v.invariant c.loop-v-test.true in
+    let standing : ServerHere c.args.table.now c.loop-v.invariant.room c.loop-v.v c.loop-v.start c.loop-v.first = walking_server c.loop-v.invariant c.loop-v-test.true in
     record { fits = omega (arith, standing.highest) }
 
 pub overflow_add-least : goal.overflow_add-least
 overflow_add-least c =
-    let table : List ℕ = c.args.table.now in
-    let standing : ServerHere table c.loop-v.invariant.room c.loop-v.v c.loop-v.start c.loop-v.first = walking_server c.loop-v.invariant c.loop-v-test.true in
+    let standing : ServerHere c.args.table.now c.loop-v.invariant.room c.loop-v.v c.loop-v.start c.loop-v.first = walking_server c.loop-v.invariant c.loop-v-test.true in
     omega (arith, standing.there)
 
 pub offset_bounds-table-start-in-loop-v : goal.offset_bounds-table-start-in-loop-v
 offset_bounds-table-start-in-loop-v c =
-    let table : List ℕ = c.args.table.now in
-    let standing : ServerHere table c.loop-v.invariant.room c.loop-v.v c.loop-v.start c.loop-v.first = walking_server c.loop-v.invariant c.loop-v-test.true in
+    let standing : ServerHere c.args.table.now c.loop-v.invariant.room c.loop-v.v c.loop-v.start c.loop-v.first = walking_server c.loop-v.invariant c.loop-v-test.true in
     omega (arith, standing.there)
 
 pub bounds-table-start-in-loop-v : goal.bounds-table-start-in-loop-v
 bounds-table-start-in-loop-v c =
-    let table : List ℕ = c.args.table.now in
-    let standing : ServerHere table c.loop-v.invariant.room c.loop-v.v c.loop-v.start c.loop-v.first = walking_server c.loop-v.invariant c.loop-v-test.true in
+    let standing : ServerHere c.args.table.now c.loop-v.invariant.room c.loop-v.v c.loop-v.start c.loop-v.first = walking_server c.loop-v.invariant c.loop-v-test.true in
     omega (arith, standing.there)
 
 pub offset_bounds-demands-v : goal.offset_bounds-demands-v
@@ -60,44 +53,37 @@ bounds-demands-v c = c.loop-v-test.true
 
 pub overflow_add-start : goal.overflow_add-start
 overflow_add-start c =
-    let table : List ℕ = c.args.table.now in
-    let standing : ServerHere table c.loop-v.invariant.room c.loop-v.v c.loop-v.start c.loop-v.first = walking_server c.loop-v.invariant c.loop-v-test.true in
+    let standing : ServerHere c.args.table.now c.loop-v.invariant.room c.loop-v.v c.loop-v.start c.loop-v.first = walking_server c.loop-v.invariant c.loop-v-test.true in
     omega (arith, standing.there)
 
 pub offset_bounds-table-start-in-loop-v-2 : goal.offset_bounds-table-start-in-loop-v-2
 offset_bounds-table-start-in-loop-v-2 c =
-    let table : List ℕ = c.args.table.now in
-    let standing : ServerHere table c.loop-v.invariant.room c.loop-v.v c.loop-v.start c.loop-v.first = walking_server c.loop-v.invariant c.loop-v-test.true in
+    let standing : ServerHere c.args.table.now c.loop-v.invariant.room c.loop-v.v c.loop-v.start c.loop-v.first = walking_server c.loop-v.invariant c.loop-v-test.true in
     omega (arith, standing.there)
 
 pub bounds-table-start-in-loop-v-2 : goal.bounds-table-start-in-loop-v-2
 bounds-table-start-in-loop-v-2 c =
-    let table : List ℕ = c.args.table.now in
-    let standing : ServerHere table c.loop-v.invariant.room c.loop-v.v c.loop-v.start c.loop-v.first = walking_server c.loop-v.invariant c.loop-v-test.true in
+    let standing : ServerHere c.args.table.now c.loop-v.invariant.room c.loop-v.v c.loop-v.start c.loop-v.first = walking_server c.loop-v.invariant c.loop-v-test.true in
     omega (arith, standing.there)
 
 pub overflow_add-start-in-loop-v : goal.overflow_add-start-in-loop-v
 overflow_add-start-in-loop-v c =
-    let table : List ℕ = c.args.table.now in
-    let standing : ServerHere table c.loop-v.invariant.room c.loop-v.v c.loop-v.start c.loop-v.first = walking_server c.loop-v.invariant c.loop-v-test.true in
+    let standing : ServerHere c.args.table.now c.loop-v.invariant.room c.loop-v.v c.loop-v.start c.loop-v.first = walking_server c.loop-v.invariant c.loop-v-test.true in
     omega (arith, standing.there)
 
 pub offset_bounds-table-start-in-loop-v-3 : goal.offset_bounds-table-start-in-loop-v-3
 offset_bounds-table-start-in-loop-v-3 c =
-    let table : List ℕ = c.args.table.now in
-    let standing : ServerHere table c.loop-v.invariant.room c.loop-v.v c.loop-v.start c.loop-v.first = walking_server c.loop-v.invariant c.loop-v-test.true in
+    let standing : ServerHere c.args.table.now c.loop-v.invariant.room c.loop-v.v c.loop-v.start c.loop-v.first = walking_server c.loop-v.invariant c.loop-v-test.true in
     omega (arith, standing.there)
 
 pub bounds-table-start-in-loop-v-3 : goal.bounds-table-start-in-loop-v-3
 bounds-table-start-in-loop-v-3 c =
-    let table : List ℕ = c.args.table.now in
-    let standing : ServerHere table c.loop-v.invariant.room c.loop-v.v c.loop-v.start c.loop-v.first = walking_server c.loop-v.invariant c.loop-v-test.true in
+    let standing : ServerHere c.args.table.now c.loop-v.invariant.room c.loop-v.v c.loop-v.start c.loop-v.first = walking_server c.loop-v.invariant c.loop-v-test.true in
     omega (arith, standing.there)
 
 pub overflow_add-word : goal.overflow_add-word
 overflow_add-word c =
-    let table : List ℕ = c.args.table.now in
-    let standing : ServerHere table c.loop-v.invariant.room c.loop-v.v c.loop-v.start c.loop-v.first = walking_server c.loop-v.invariant c.loop-v-test.true in
+    let standing : ServerHere c.args.table.now c.loop-v.invariant.room c.loop-v.v c.loop-v.start c.loop-v.first = walking_server c.loop-v.invariant c.loop-v-test.true in
     omega (arith, standing.there)
 
 pub overflow_add-c-end : goal.overflow_add-c-end
@@ -200,11 +186,10 @@ note_cord-requires c =
     let FitsAt : Type 0 = CordFits c.args.table.now c.args.grants.now c.args.scale (get_or c.args.table.now (c.loop-v.start + 1) 0) c.need_of-need.result c.loop-c.c c.loop-c.word
     c.loop-c.given c.loop-c.raised c.loop-c.wanting in
     let fits : FitsAt = cord_fits c.loop-c.invariant c.loop-c-test.true in
-    let fit = fits in
     record {
-      node = (omega (arith, c.word_index.ensures.result.0, fit.in_given), omega (arith, c.word_index.ensures.result.0, fit.in_raised), omega (arith, c.word_index.ensures.result.0, fit.in_wanting));
+      node = (omega (arith, c.word_index.ensures.result.0, fits.in_given), omega (arith, c.word_index.ensures.result.0, fits.in_raised), omega (arith, c.word_index.ensures.result.0, fits.in_wanting));
       least = c.if-grant-low.false;
-      sum_fits = fit.small _;
+      sum_fits = fits.small _;
     }
 
 pub overflow_add-word-in-loop-c : goal.overflow_add-word-in-loop-c

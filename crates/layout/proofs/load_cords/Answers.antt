@@ -3,8 +3,7 @@
 -- ---- What is known of a server, and of a cord
 -- ---- The needs
 use mathlib.Core.Path.{refl}
-use mathlib.Core.List.{List}
-use Prim.Native.Nat.{ℕ, ◌+◌}
+use Prim.Native.Nat.{◌+◌}
 use native.Mathlib.Omega.{arith}
 use lib.ListN.{get_or}
 use Rattle.rooms.proofs.Walk.{ServerHere}
@@ -16,62 +15,52 @@ loop-v-init c = loading_start c.requires.lists c.table_scale-scale.ensures.scale
 
 pub offset_bounds-table-start : goal.offset_bounds-table-start
 offset_bounds-table-start c =
-    let table : List ℕ = c.args.table.now in
-    let standing : ServerHere table c.loop-v.invariant.room c.loop-v.v c.loop-v.start c.loop-v.first = server-here c.loop-v.invariant c.loop-v-test.true in
+    let standing : ServerHere c.args.table.now c.loop-v.invariant.room c.loop-v.v c.loop-v.start c.loop-v.first = server-here c.loop-v.invariant c.loop-v-test.true in
     omega (arith, standing.there)
 
 pub bounds-table-start : goal.bounds-table-start
 bounds-table-start c =
-    let table : List ℕ = c.args.table.now in
-    let standing : ServerHere table c.loop-v.invariant.room c.loop-v.v c.loop-v.start c.loop-v.first = server-here c.loop-v.invariant c.loop-v-test.true in
+    let standing : ServerHere c.args.table.now c.loop-v.invariant.room c.loop-v.v c.loop-v.start c.loop-v.first = server-here c.loop-v.invariant c.loop-v-test.true in
     omega (arith, standing.there)
 
 pub overflow_sub-table : goal.overflow_sub-table
 overflow_sub-table c =
-    let table : List ℕ = c.args.table.now in
-    let standing : ServerHere table c.loop-v.invariant.room c.loop-v.v c.loop-v.start c.loop-v.first = server-here c.loop-v.invariant c.loop-v-test.true in
+    let standing : ServerHere c.args.table.now c.loop-v.invariant.room c.loop-v.v c.loop-v.start c.loop-v.first = server-here c.loop-v.invariant c.loop-v-test.true in
     omega (arith, standing.lowest, standing.highest)
 
 pub short-level-requires : goal.short-level-requires
 short-level-requires c =
-    let table : List ℕ = c.args.table.now in
-    let standing : ServerHere table c.loop-v.invariant.room c.loop-v.v c.loop-v.start c.loop-v.first = server-here c.loop-v.invariant c.loop-v-test.true in
+    let standing : ServerHere c.args.table.now c.loop-v.invariant.room c.loop-v.v c.loop-v.start c.loop-v.first = server-here c.loop-v.invariant c.loop-v-test.true in
     record { fits = omega (arith, standing.highest) }
 
 pub overflow_add-least : goal.overflow_add-least
 overflow_add-least c =
-    let table : List ℕ = c.args.table.now in
-    let standing : ServerHere table c.loop-v.invariant.room c.loop-v.v c.loop-v.start c.loop-v.first = server-here c.loop-v.invariant c.loop-v-test.true in
+    let standing : ServerHere c.args.table.now c.loop-v.invariant.room c.loop-v.v c.loop-v.start c.loop-v.first = server-here c.loop-v.invariant c.loop-v-test.true in
     omega (arith, standing.there)
 
 pub offset_bounds-table-start-in-loop-v : goal.offset_bounds-table-start-in-loop-v
 offset_bounds-table-start-in-loop-v c =
-    let table : List ℕ = c.args.table.now in
-    let standing : ServerHere table c.loop-v.invariant.room c.loop-v.v c.loop-v.start c.loop-v.first = server-here c.loop-v.invariant c.loop-v-test.true in
+    let standing : ServerHere c.args.table.now c.loop-v.invariant.room c.loop-v.v c.loop-v.start c.loop-v.first = server-here c.loop-v.invariant c.loop-v-test.true in
     omega (arith, standing.there)
 
 pub bounds-table-start-in-loop-v : goal.bounds-table-start-in-loop-v
 bounds-table-start-in-loop-v c =
-    let table : List ℕ = c.args.table.now in
-    let standing : ServerHere table c.loop-v.invariant.room c.loop-v.v c.loop-v.start c.loop-v.first = server-here c.loop-v.invariant c.loop-v-test.true in
+    let standing : ServerHere c.args.table.now c.loop-v.invariant.room c.loop-v.v c.loop-v.start c.loop-v.first = server-here c.loop-v.invariant c.loop-v-test.true in
     omega (arith, standing.there)
 
 pub overflow_add-greatest : goal.overflow_add-greatest
 overflow_add-greatest c =
-    let table : List ℕ = c.args.table.now in
-    let standing : ServerHere table c.loop-v.invariant.room c.loop-v.v c.loop-v.start c.loop-v.first = server-here c.loop-v.invariant c.loop-v-test.true in
+    let standing : ServerHere c.args.table.now c.loop-v.invariant.room c.loop-v.v c.loop-v.start c.loop-v.first = server-here c.loop-v.invariant c.loop-v-test.true in
     omega (arith, standing.there)
 
 pub offset_bounds-table-start-in-loop-v-2 : goal.offset_bounds-table-start-in-loop-v-2
 offset_bounds-table-start-in-loop-v-2 c =
-    let table : List ℕ = c.args.table.now in
-    let standing : ServerHere table c.loop-v.invariant.room c.loop-v.v c.loop-v.start c.loop-v.first = server-here c.loop-v.invariant c.loop-v-test.true in
+    let standing : ServerHere c.args.table.now c.loop-v.invariant.room c.loop-v.v c.loop-v.start c.loop-v.first = server-here c.loop-v.invariant c.loop-v-test.true in
     omega (arith, standing.there)
 
 pub bounds-table-start-in-loop-v-2 : goal.bounds-table-start-in-loop-v-2
 bounds-table-start-in-loop-v-2 c =
-    let table : List ℕ = c.args.table.now in
-    let standing : ServerHere table c.loop-v.invariant.room c.loop-v.v c.loop-v.start c.loop-v.first = server-here c.loop-v.invariant c.loop-v-test.true in
+    let standing : ServerHere c.args.table.now c.loop-v.invariant.room c.loop-v.v c.loop-v.start c.loop-v.first = server-here c.loop-v.invariant c.loop-v-test.true in
     omega (arith, standing.there)
 
 pub offset_bounds-demands-v : goal.offset_bounds-demands-v
@@ -82,26 +71,22 @@ bounds-demands-v c = c.loop-v-test.true
 
 pub overflow_add-start : goal.overflow_add-start
 overflow_add-start c =
-    let table : List ℕ = c.args.table.now in
-    let standing : ServerHere table c.loop-v.invariant.room c.loop-v.v c.loop-v.start c.loop-v.first = server-here c.loop-v.invariant c.loop-v-test.true in
+    let standing : ServerHere c.args.table.now c.loop-v.invariant.room c.loop-v.v c.loop-v.start c.loop-v.first = server-here c.loop-v.invariant c.loop-v-test.true in
     omega (arith, standing.there)
 
 pub offset_bounds-table-start-in-loop-v-3 : goal.offset_bounds-table-start-in-loop-v-3
 offset_bounds-table-start-in-loop-v-3 c =
-    let table : List ℕ = c.args.table.now in
-    let standing : ServerHere table c.loop-v.invariant.room c.loop-v.v c.loop-v.start c.loop-v.first = server-here c.loop-v.invariant c.loop-v-test.true in
+    let standing : ServerHere c.args.table.now c.loop-v.invariant.room c.loop-v.v c.loop-v.start c.loop-v.first = server-here c.loop-v.invariant c.loop-v-test.true in
     omega (arith, standing.there)
 
 pub bounds-table-start-in-loop-v-3 : goal.bounds-table-start-in-loop-v-3
 bounds-table-start-in-loop-v-3 c =
-    let table : List ℕ = c.args.table.now in
-    let standing : ServerHere table c.loop-v.invariant.room c.loop-v.v c.loop-v.start c.loop-v.first = server-here c.loop-v.invariant c.loop-v-test.true in
+    let standing : ServerHere c.args.table.now c.loop-v.invariant.room c.loop-v.v c.loop-v.start c.loop-v.first = server-here c.loop-v.invariant c.loop-v-test.true in
     omega (arith, standing.there)
 
 pub overflow_add-word : goal.overflow_add-word
 overflow_add-word c =
-    let table : List ℕ = c.args.table.now in
-    let standing : ServerHere table c.loop-v.invariant.room c.loop-v.v c.loop-v.start c.loop-v.first = server-here c.loop-v.invariant c.loop-v-test.true in
+    let standing : ServerHere c.args.table.now c.loop-v.invariant.room c.loop-v.v c.loop-v.start c.loop-v.first = server-here c.loop-v.invariant c.loop-v-test.true in
     omega (arith, standing.there)
 
 pub overflow_add-c-end : goal.overflow_add-c-end
@@ -112,108 +97,94 @@ loop-c-init c = server_begin c.loop-v.invariant c.loop-v-test.true refl c.short-
 
 pub offset_bounds-table-word : goal.offset_bounds-table-word
 offset_bounds-table-word c =
-    let table : List ℕ = c.args.table.now in
-    let FitsAt : Type 0 = CordFits table c.table_scale-scale.result c.loop-v.v (get_or table (c.loop-v.start + 1) 0) (get_or table (c.loop-v.start + 2) 0) c.need_of-need.result
+    let FitsAt : Type 0 = CordFits c.args.table.now c.table_scale-scale.result c.loop-v.v (get_or c.args.table.now (c.loop-v.start + 1) 0) (get_or c.args.table.now (c.loop-v.start + 2) 0) c.need_of-need.result
     c.loop-c.c c.loop-c.word c.loop-c.cords c.loop-c.lows c.loop-c.wants c.loop-c.ceilings in
     let fits : FitsAt = cord_fits c.loop-c.invariant c.loop-c-test.true in
     omega (arith, fits.there)
 
 pub bounds-table-word : goal.bounds-table-word
 bounds-table-word c =
-    let table : List ℕ = c.args.table.now in
-    let FitsAt : Type 0 = CordFits table c.table_scale-scale.result c.loop-v.v (get_or table (c.loop-v.start + 1) 0) (get_or table (c.loop-v.start + 2) 0) c.need_of-need.result
+    let FitsAt : Type 0 = CordFits c.args.table.now c.table_scale-scale.result c.loop-v.v (get_or c.args.table.now (c.loop-v.start + 1) 0) (get_or c.args.table.now (c.loop-v.start + 2) 0) c.need_of-need.result
     c.loop-c.c c.loop-c.word c.loop-c.cords c.loop-c.lows c.loop-c.wants c.loop-c.ceilings in
     let fits : FitsAt = cord_fits c.loop-c.invariant c.loop-c-test.true in
     omega (arith, fits.there)
 
 pub short-node-requires : goal.short-node-requires
 short-node-requires c =
-    let table : List ℕ = c.args.table.now in
-    let FitsAt : Type 0 = CordFits table c.table_scale-scale.result c.loop-v.v (get_or table (c.loop-v.start + 1) 0) (get_or table (c.loop-v.start + 2) 0) c.need_of-need.result
+    let FitsAt : Type 0 = CordFits c.args.table.now c.table_scale-scale.result c.loop-v.v (get_or c.args.table.now (c.loop-v.start + 1) 0) (get_or c.args.table.now (c.loop-v.start + 2) 0) c.need_of-need.result
     c.loop-c.c c.loop-c.word c.loop-c.cords c.loop-c.lows c.loop-c.wants c.loop-c.ceilings in
     let fits : FitsAt = cord_fits c.loop-c.invariant c.loop-c-test.true in
     record { fits = fits.node_short }
 
 pub overflow_add-share : goal.overflow_add-share
 overflow_add-share c =
-    let table : List ℕ = c.args.table.now in
-    let FitsAt : Type 0 = CordFits table c.table_scale-scale.result c.loop-v.v (get_or table (c.loop-v.start + 1) 0) (get_or table (c.loop-v.start + 2) 0) c.need_of-need.result
+    let FitsAt : Type 0 = CordFits c.args.table.now c.table_scale-scale.result c.loop-v.v (get_or c.args.table.now (c.loop-v.start + 1) 0) (get_or c.args.table.now (c.loop-v.start + 2) 0) c.need_of-need.result
     c.loop-c.c c.loop-c.word c.loop-c.cords c.loop-c.lows c.loop-c.wants c.loop-c.ceilings in
     let fits : FitsAt = cord_fits c.loop-c.invariant c.loop-c-test.true in
     omega (arith, fits.there)
 
 pub offset_bounds-table-word-in-loop-c : goal.offset_bounds-table-word-in-loop-c
 offset_bounds-table-word-in-loop-c c =
-    let table : List ℕ = c.args.table.now in
-    let FitsAt : Type 0 = CordFits table c.table_scale-scale.result c.loop-v.v (get_or table (c.loop-v.start + 1) 0) (get_or table (c.loop-v.start + 2) 0) c.need_of-need.result
+    let FitsAt : Type 0 = CordFits c.args.table.now c.table_scale-scale.result c.loop-v.v (get_or c.args.table.now (c.loop-v.start + 1) 0) (get_or c.args.table.now (c.loop-v.start + 2) 0) c.need_of-need.result
     c.loop-c.c c.loop-c.word c.loop-c.cords c.loop-c.lows c.loop-c.wants c.loop-c.ceilings in
     let fits : FitsAt = cord_fits c.loop-c.invariant c.loop-c-test.true in
     omega (arith, fits.there)
 
 pub bounds-table-word-in-loop-c : goal.bounds-table-word-in-loop-c
 bounds-table-word-in-loop-c c =
-    let table : List ℕ = c.args.table.now in
-    let FitsAt : Type 0 = CordFits table c.table_scale-scale.result c.loop-v.v (get_or table (c.loop-v.start + 1) 0) (get_or table (c.loop-v.start + 2) 0) c.need_of-need.result
+    let FitsAt : Type 0 = CordFits c.args.table.now c.table_scale-scale.result c.loop-v.v (get_or c.args.table.now (c.loop-v.start + 1) 0) (get_or c.args.table.now (c.loop-v.start + 2) 0) c.need_of-need.result
     c.loop-c.c c.loop-c.word c.loop-c.cords c.loop-c.lows c.loop-c.wants c.loop-c.ceilings in
     let fits : FitsAt = cord_fits c.loop-c.invariant c.loop-c-test.true in
     fits.there
 
 pub place-requires : goal.place-requires
 place-requires c =
-    let table : List ℕ = c.args.table.now in
-    let FitsAt : Type 0 = CordFits table c.table_scale-scale.result c.loop-v.v (get_or table (c.loop-v.start + 1) 0) (get_or table (c.loop-v.start + 2) 0) c.need_of-need.result
+    let FitsAt : Type 0 = CordFits c.args.table.now c.table_scale-scale.result c.loop-v.v (get_or c.args.table.now (c.loop-v.start + 1) 0) (get_or c.args.table.now (c.loop-v.start + 2) 0) c.need_of-need.result
     c.loop-c.c c.loop-c.word c.loop-c.cords c.loop-c.lows c.loop-c.wants c.loop-c.ceilings in
     let fits : FitsAt = cord_fits c.loop-c.invariant c.loop-c-test.true in
     record { fits = fits.server_short }
 
 pub short-requires : goal.short-requires
 short-requires c =
-    let table : List ℕ = c.args.table.now in
-    let FitsAt : Type 0 = CordFits table c.table_scale-scale.result c.loop-v.v (get_or table (c.loop-v.start + 1) 0) (get_or table (c.loop-v.start + 2) 0) c.need_of-need.result
+    let FitsAt : Type 0 = CordFits c.args.table.now c.table_scale-scale.result c.loop-v.v (get_or c.args.table.now (c.loop-v.start + 1) 0) (get_or c.args.table.now (c.loop-v.start + 2) 0) c.need_of-need.result
     c.loop-c.c c.loop-c.word c.loop-c.cords c.loop-c.lows c.loop-c.wants c.loop-c.ceilings in
     let fits : FitsAt = cord_fits c.loop-c.invariant c.loop-c-test.true in
     record { fits = fits.share_short }
 
 pub offset_bounds-cords-c : goal.offset_bounds-cords-c
 offset_bounds-cords-c c =
-    let table : List ℕ = c.args.table.now in
-    let FitsAt : Type 0 = CordFits table c.table_scale-scale.result c.loop-v.v (get_or table (c.loop-v.start + 1) 0) (get_or table (c.loop-v.start + 2) 0) c.need_of-need.result
+    let FitsAt : Type 0 = CordFits c.args.table.now c.table_scale-scale.result c.loop-v.v (get_or c.args.table.now (c.loop-v.start + 1) 0) (get_or c.args.table.now (c.loop-v.start + 2) 0) c.need_of-need.result
     c.loop-c.c c.loop-c.word c.loop-c.cords c.loop-c.lows c.loop-c.wants c.loop-c.ceilings in
     let fits : FitsAt = cord_fits c.loop-c.invariant c.loop-c-test.true in
     omega (arith, fits.few)
 
 pub bounds-cords-c : goal.bounds-cords-c
 bounds-cords-c c =
-    let table : List ℕ = c.args.table.now in
-    let FitsAt : Type 0 = CordFits table c.table_scale-scale.result c.loop-v.v (get_or table (c.loop-v.start + 1) 0) (get_or table (c.loop-v.start + 2) 0) c.need_of-need.result
+    let FitsAt : Type 0 = CordFits c.args.table.now c.table_scale-scale.result c.loop-v.v (get_or c.args.table.now (c.loop-v.start + 1) 0) (get_or c.args.table.now (c.loop-v.start + 2) 0) c.need_of-need.result
     c.loop-c.c c.loop-c.word c.loop-c.cords c.loop-c.lows c.loop-c.wants c.loop-c.ceilings in
     let fits : FitsAt = cord_fits c.loop-c.invariant c.loop-c-test.true in
     fits.in_cords
 
 pub load_cord-requires : goal.load_cord-requires
 load_cord-requires c =
-    let table : List ℕ = c.args.table.now in
-    let FitsAt : Type 0 = CordFits table c.table_scale-scale.result c.loop-v.v (get_or table (c.loop-v.start + 1) 0) (get_or table (c.loop-v.start + 2) 0) c.need_of-need.result
+    let FitsAt : Type 0 = CordFits c.args.table.now c.table_scale-scale.result c.loop-v.v (get_or c.args.table.now (c.loop-v.start + 1) 0) (get_or c.args.table.now (c.loop-v.start + 2) 0) c.need_of-need.result
     c.loop-c.c c.loop-c.word c.loop-c.cords c.loop-c.lows c.loop-c.wants c.loop-c.ceilings in
     let fits : FitsAt = cord_fits c.loop-c.invariant c.loop-c-test.true in
-    let f = fits in
     record {
-      place = (f.in_lows, f.in_wants, f.in_ceilings);
-      in_range = (f.scaled, f.share_most, f.least_most, f.need_most, f.greatest_most);
+      place = (fits.in_lows, fits.in_wants, fits.in_ceilings);
+      in_range = (fits.scaled, fits.share_most, fits.least_most, fits.need_most, fits.greatest_most);
     }
 
 pub overflow_add-word-in-loop-c : goal.overflow_add-word-in-loop-c
 overflow_add-word-in-loop-c c =
-    let table : List ℕ = c.args.table.now in
-    let FitsAt : Type 0 = CordFits table c.table_scale-scale.result c.loop-v.v (get_or table (c.loop-v.start + 1) 0) (get_or table (c.loop-v.start + 2) 0) c.need_of-need.result
+    let FitsAt : Type 0 = CordFits c.args.table.now c.table_scale-scale.result c.loop-v.v (get_or c.args.table.now (c.loop-v.start + 1) 0) (get_or c.args.table.now (c.loop-v.start + 2) 0) c.need_of-need.result
     c.loop-c.c c.loop-c.word c.loop-c.cords c.loop-c.lows c.loop-c.wants c.loop-c.ceilings in
     let fits : FitsAt = cord_fits c.loop-c.invariant c.loop-c-test.true in
     omega (arith, fits.there)
 
 pub overflow_step-c : goal.overflow_step-c
 overflow_step-c c =
-    let table : List ℕ = c.args.table.now in
-    let FitsAt : Type 0 = CordFits table c.table_scale-scale.result c.loop-v.v (get_or table (c.loop-v.start + 1) 0) (get_or table (c.loop-v.start + 2) 0) c.need_of-need.result
+    let FitsAt : Type 0 = CordFits c.args.table.now c.table_scale-scale.result c.loop-v.v (get_or c.args.table.now (c.loop-v.start + 1) 0) (get_or c.args.table.now (c.loop-v.start + 2) 0) c.need_of-need.result
     c.loop-c.c c.loop-c.word c.loop-c.cords c.loop-c.lows c.loop-c.wants c.loop-c.ceilings in
     let fits : FitsAt = cord_fits c.loop-c.invariant c.loop-c-test.true in
     omega (arith, fits.few)

@@ -6,8 +6,6 @@ use Prim.Native.Nat.{ℕ, ◌≤◌}
 use native.Mathlib.Omega.{arith}
 use lib.ListN.{length}
 use Rattle.words.specs.Bytes.{words_of}
-use Rattle.deals.specs.declared.Lengths.{Lengths}
-use Rattle.layout.specs.declared.room.Counts.{Counts}
 use Rattle.layout.proofs.Loads.{servers_few, cords_few}
 use Rattle.plan_rooms.specs.Planning.{PlanGiven}
 use Rattle.deals.proofs.Plans.{each}
@@ -19,22 +17,12 @@ pub plan_loaded-freed-requires : goal.plan_loaded-freed-requires
 plan_loaded-freed-requires c =
     let table : List ℕ = words_of c.args.table.now in
     let demands : List ℕ = words_of c.args.demands.now in
-    let lengths : Lengths = c.args.lengths in
-    let counts : Counts = c.in-Good.counts in
-    let admitted : Admitted table demands lengths counts = admitted_good table demands lengths c.load_bytes-loaded.ensures.answer c.admit-admission.ensures.admitted c.in-Good.is in
-    let parents_after : List ℕ = c.load_bytes-loaded.new.parents in
-    let left_after : List ℕ = c.load_bytes-loaded.new.spare in
-    let cords-after : List (List ℕ) = c.load_bytes-loaded.new.cords in
-    let lows-after : List ℕ = c.load_bytes-loaded.new.lows in
-    let wants-after : List ℕ = c.load_bytes-loaded.new.wants in
-    let lent-after : List ℕ = c.load_bytes-loaded.new.ceilings in
-    let capped_after : List ℕ = c.load_bytes-loaded.new.needs in
-    let given : PlanGiven table demands admitted.room_found.room counts parents_after left_after cords-after lows-after wants-after lent-after capped_after = plan-given admitted (c.load_bytes-loaded.ensures.lists admitted.room_found.room admitted.room_found.accepts) in
-    let granted_long : counts.cords ≤ length c.args.granted.now = omega (arith, cords_few admitted.room_found, c.requires.cords.0) in
-    let holders_long : counts.cords ≤ length c.args.holders.now = omega (arith, cords_few admitted.room_found, c.requires.cords.2) in
-    let a = admitted in
+    let admitted : Admitted table demands c.args.lengths c.in-Good.counts = admitted_good table demands c.args.lengths c.load_bytes-loaded.ensures.answer c.admit-admission.ensures.admitted c.in-Good.is in
+    let given : PlanGiven table demands admitted.room_found.room c.in-Good.counts c.load_bytes-loaded.new.parents c.load_bytes-loaded.new.spare c.load_bytes-loaded.new.cords c.load_bytes-loaded.new.lows c.load_bytes-loaded.new.wants c.load_bytes-loaded.new.ceilings c.load_bytes-loaded.new.needs = plan-given admitted (c.load_bytes-loaded.ensures.lists admitted.room_found.room admitted.room_found.accepts) in
+    let granted_long : c.in-Good.counts.cords ≤ length c.args.granted.now = omega (arith, cords_few admitted.room_found, c.requires.cords.0) in
+    let holders_long : c.in-Good.counts.cords ≤ length c.args.holders.now = omega (arith, cords_few admitted.room_found, c.requires.cords.2) in
     record {
-      room = record { table = table; demands = demands; room = a.room_found.room; given = given };
+      room = record { table = table; demands = demands; room = admitted.room_found.room; given = given };
       space = (granted_long, holders_long);
     }
 
@@ -42,21 +30,12 @@ pub returns-in-Good : goal.returns-in-Good
 returns-in-Good c =
     let table : List ℕ = words_of c.args.table.now in
     let demands : List ℕ = words_of c.args.demands.now in
-    let lengths : Lengths = c.args.lengths in
-    let counts : Counts = c.in-Good.counts in
-    let admitted : Admitted table demands lengths counts = admitted_good table demands lengths c.load_bytes-loaded.ensures.answer c.admit-admission.ensures.admitted c.in-Good.is in
-    let parents_after : List ℕ = c.load_bytes-loaded.new.parents in
-    let left_after : List ℕ = c.load_bytes-loaded.new.spare in
-    let cords-after : List (List ℕ) = c.load_bytes-loaded.new.cords in
-    let lows-after : List ℕ = c.load_bytes-loaded.new.lows in
-    let wants-after : List ℕ = c.load_bytes-loaded.new.wants in
-    let lent-after : List ℕ = c.load_bytes-loaded.new.ceilings in
-    let capped_after : List ℕ = c.load_bytes-loaded.new.needs in
-    let given : PlanGiven table demands admitted.room_found.room counts parents_after left_after cords-after lows-after wants-after lent-after capped_after = plan-given admitted (c.load_bytes-loaded.ensures.lists admitted.room_found.room admitted.room_found.accepts) in
-    let granted_long : counts.cords ≤ length c.args.granted.now = omega (arith, cords_few admitted.room_found, c.requires.cords.0) in
-    let lent_long : counts.cords ≤ length lent-after = omega (arith, cords_few admitted.room_found, c.requires.cords.1, c.load_bytes-loaded.auto.ceilings) in
-    let holders_long : counts.cords ≤ length c.args.holders.now = omega (arith, cords_few admitted.room_found, c.requires.cords.2) in
-    let capped_long : counts.servers ≤ length capped_after = omega (arith, servers_few admitted.room_found, c.requires.servers, c.load_bytes-loaded.auto.needs) in
+    let admitted : Admitted table demands c.args.lengths c.in-Good.counts = admitted_good table demands c.args.lengths c.load_bytes-loaded.ensures.answer c.admit-admission.ensures.admitted c.in-Good.is in
+    let given : PlanGiven table demands admitted.room_found.room c.in-Good.counts c.load_bytes-loaded.new.parents c.load_bytes-loaded.new.spare c.load_bytes-loaded.new.cords c.load_bytes-loaded.new.lows c.load_bytes-loaded.new.wants c.load_bytes-loaded.new.ceilings c.load_bytes-loaded.new.needs = plan-given admitted (c.load_bytes-loaded.ensures.lists admitted.room_found.room admitted.room_found.accepts) in
+    let granted_long : c.in-Good.counts.cords ≤ length c.args.granted.now = omega (arith, cords_few admitted.room_found, c.requires.cords.0) in
+    let lent_long : c.in-Good.counts.cords ≤ length c.load_bytes-loaded.new.ceilings = omega (arith, cords_few admitted.room_found, c.requires.cords.1, c.load_bytes-loaded.auto.ceilings) in
+    let holders_long : c.in-Good.counts.cords ≤ length c.args.holders.now = omega (arith, cords_few admitted.room_found, c.requires.cords.2) in
+    let capped_long : c.in-Good.counts.servers ≤ length c.load_bytes-loaded.new.needs = omega (arith, servers_few admitted.room_found, c.requires.servers, c.load_bytes-loaded.auto.needs) in
     record {
       planned =
           let a = admitted in

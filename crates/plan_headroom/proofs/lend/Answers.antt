@@ -1,11 +1,10 @@
 -- `lend` meets its contract: what is weighed and shared is the headroom.
 use mathlib.Core.Path.{◌≡◌, sym, ◌∙◌}
-use mathlib.Core.List.{List}
 use Prim.Native.Nat.{ℕ, ◌≤◌}
 use native.Mathlib.Omega.{arith}
 use lib.ListN.{length, replicate}
 use Rattle.figures.proofs.Fronts.{equal_length}
-use Rattle.plan_headroom.specs.Passes.{LendLists, AllPlaces, LendWeights}
+use Rattle.plan_headroom.specs.Passes.{LendLists, LendWeights}
 use Rattle.plan_headroom.proofs.Weights.{sum_weights_asks, OnNodes, weigh_asks, lend_weights}
 use Rattle.plan_headroom.proofs.Headroom.{lend_lists, left_most, headroom_is}
 use Rattle.plan_headroom.proofs.lend.Goals as goal
@@ -26,14 +25,11 @@ sum_weights-requires c =
 
 pub weigh-requires : goal.weigh-requires
 weigh-requires c =
-    let all_listed : List ℕ = c.list_all.new.all in
-    let sums_back : List ℕ = c.sum_weights.new.wholes in
     let lists : LendLists c.args.parents.now c.args.nodes.now c.args.wants.now c.args.headroom.now = lend_lists c.requires.lists.0.given in
     let enough : (size : ℕ) → size ≡ figures_length → length c.args.parents.now ≤ size = λ size e. omega (arith, lists.few-nodes) in
-    let places : AllPlaces all_listed = c.list_all.ensures.listed in
-    let on-nodes : OnNodes lists places sums_back = λ n l. c.sum_weights.ensures.summed n l in
-    let sums_sized : length sums_back ≡ figures_length = c.sum_weights.auto.wholes ∙ new-list in
-    let all = weigh_asks lists places c.args.left.now sums_back c.requires.lists.0.given.left_size on-nodes (enough _ sums_sized) (enough _ new-list) in
+    let on-nodes : OnNodes lists c.list_all.ensures.listed c.sum_weights.new.wholes = λ n l. c.sum_weights.ensures.summed n l in
+    let sums_sized : length c.sum_weights.new.wholes ≡ figures_length = c.sum_weights.auto.wholes ∙ new-list in
+    let all = weigh_asks lists c.list_all.ensures.listed c.args.left.now c.sum_weights.new.wholes c.requires.lists.0.given.left_size on-nodes (enough _ sums_sized) (enough _ new-list) in
     record {
       nodes = all.0;
       sizes = (all.1.0.0, omega (arith, lists.few-nodes, sums_sized), omega (arith, lists.few-nodes));
@@ -43,35 +39,24 @@ weigh-requires c =
 
 pub deal_out-requires : goal.deal_out-requires
 deal_out-requires c =
-    let all_listed : List ℕ = c.list_all.new.all in
-    let sums_back : List ℕ = c.sum_weights.new.wholes in
-    let wholes_back : List ℕ = c.weigh.new.wholes in
-    let amounts_back : List ℕ = c.weigh.new.weights in
     let lists : LendLists c.args.parents.now c.args.nodes.now c.args.wants.now c.args.headroom.now = lend_lists c.requires.lists.0.given in
     let enough : (size : ℕ) → size ≡ figures_length → length c.args.parents.now ≤ size = λ size e. omega (arith, lists.few-nodes) in
-    let places : AllPlaces all_listed = c.list_all.ensures.listed in
-    let on-nodes : OnNodes lists places sums_back = λ n l. c.sum_weights.ensures.summed n l in
-    let weights_at : LendWeights c.args.parents.now c.args.nodes.now c.args.wants.now c.args.headroom.now amounts_back wholes_back = lend_weights lists places c.weigh.ensures.weighed (left_most c.requires.lists.0.given) on-nodes in
-    let sums_sized : length sums_back ≡ figures_length = c.sum_weights.auto.wholes ∙ new-list in
-    let wholes_sized : length wholes_back ≡ figures_length = c.weigh.auto.wholes ∙ sums_sized in
-    let amounts_sized : length amounts_back ≡ figures_length = c.weigh.auto.weights ∙ new-list in
+    let on-nodes : OnNodes lists c.list_all.ensures.listed c.sum_weights.new.wholes = λ n l. c.sum_weights.ensures.summed n l in
+    let weights_at : LendWeights c.args.parents.now c.args.nodes.now c.args.wants.now c.args.headroom.now c.weigh.new.weights c.weigh.new.wholes = lend_weights lists c.list_all.ensures.listed c.weigh.ensures.weighed (left_most c.requires.lists.0.given) on-nodes in
+    let sums_sized : length c.sum_weights.new.wholes ≡ figures_length = c.sum_weights.auto.wholes ∙ new-list in
+    let wholes_sized : length c.weigh.new.wholes ≡ figures_length = c.weigh.auto.wholes ∙ sums_sized in
+    let amounts_sized : length c.weigh.new.weights ≡ figures_length = c.weigh.auto.weights ∙ new-list in
     let same = sym amounts_sized in
     record {
       lists = lists;
-      places = (places, c.requires.lists.1);
+      places = (c.list_all.ensures.listed, c.requires.lists.1);
       sizes = (enough _ amounts_sized, wholes_sized ∙ same, new-list ∙ same, new-list ∙ same);
       weights = weights_at;
     }
 
 pub returns : goal.returns
 returns c =
-    let all_listed : List ℕ = c.list_all.new.all in
-    let sums_back : List ℕ = c.sum_weights.new.wholes in
-    let wholes_back : List ℕ = c.weigh.new.wholes in
-    let amounts_back : List ℕ = c.weigh.new.weights in
     let lists : LendLists c.args.parents.now c.args.nodes.now c.args.wants.now c.args.headroom.now = lend_lists c.requires.lists.0.given in
-    let places : AllPlaces all_listed = c.list_all.ensures.listed in
-    let on-nodes : OnNodes lists places sums_back = λ n l. c.sum_weights.ensures.summed n l in
-    let weights_at : LendWeights c.args.parents.now c.args.nodes.now c.args.wants.now c.args.headroom.now amounts_back wholes_back = lend_weights lists places c.weigh.ensures.weighed (left_most c.requires.lists.0.given) on-nodes in
-    let headroom_kept : length c.deal_out.new.headroom ≡ length c.args.headroom.now = c.deal_out.auto.headroom in
-    record { lent = λ limits levels lows starts given. headroom_is given weights_at c.weigh.ensures.weighed.weights_are c.deal_out.ensures.dealt_out headroom_kept }
+    let on-nodes : OnNodes lists c.list_all.ensures.listed c.sum_weights.new.wholes = λ n l. c.sum_weights.ensures.summed n l in
+    let weights_at : LendWeights c.args.parents.now c.args.nodes.now c.args.wants.now c.args.headroom.now c.weigh.new.weights c.weigh.new.wholes = lend_weights lists c.list_all.ensures.listed c.weigh.ensures.weighed (left_most c.requires.lists.0.given) on-nodes in
+    record { lent = λ limits levels lows starts given. headroom_is given weights_at c.weigh.ensures.weighed.weights_are c.deal_out.ensures.dealt_out c.deal_out.auto.headroom }

@@ -28,200 +28,159 @@ use Rattle.plan_rooms.proofs.deal_twice.Goals as goal
 
 pub slice_bounds-first_left-end : goal.slice_bounds-first_left-end
 slice_bounds-first_left-end c =
-    let RoomOf : Room → List ℕ → Type 0 = λ r demands. RoomToDeal r demands c.args.parents.now c.args.left.now c.args.cords.now c.args.nodes.now c.args.lows.now c.args.wants.now c.args.caps.now c.args.scale in
     let room : Accepted c.requires.room.room = accepted c.requires.room.table c.requires.room.room c.requires.room.end c.requires.room.is in
-    let lists : RoomOf c.requires.room.room c.requires.room.demands = c.requires.room.lists in
     let nodes_s : ℕ = length c.args.parents.now in
-    let nodes_few : nodes_s ≤ most_nodes = (levels_nodes room lists).0 in
+    let nodes_few : nodes_s ≤ most_nodes = (levels_nodes room c.requires.room.lists).0 in
     omega (arith, nodes_few, equal_length {A = ℕ} most_nodes 0)
 
 pub slice_bounds-copy-end : goal.slice_bounds-copy-end
 slice_bounds-copy-end c =
-    let RoomOf : Room → List ℕ → Type 0 = λ r demands. RoomToDeal r demands c.args.parents.now c.args.left.now c.args.cords.now c.args.nodes.now c.args.lows.now c.args.wants.now c.args.caps.now c.args.scale in
     let room : Accepted c.requires.room.room = accepted c.requires.room.table c.requires.room.room c.requires.room.end c.requires.room.is in
-    let lists : RoomOf c.requires.room.room c.requires.room.demands = c.requires.room.lists in
     let nodes_s : ℕ = length c.args.parents.now in
-    let nodes_few : nodes_s ≤ most_nodes = (levels_nodes room lists).0 in
+    let nodes_few : nodes_s ≤ most_nodes = (levels_nodes room c.requires.room.lists).0 in
     sym (zeros-front most_nodes _ nodes_few)
 
 pub slice_bounds-usable-end : goal.slice_bounds-usable-end
 slice_bounds-usable-end c =
-    let RoomOf : Room → List ℕ → Type 0 = λ r demands. RoomToDeal r demands c.args.parents.now c.args.left.now c.args.cords.now c.args.nodes.now c.args.lows.now c.args.wants.now c.args.caps.now c.args.scale in
     let room : Accepted c.requires.room.room = accepted c.requires.room.table c.requires.room.room c.requires.room.end c.requires.room.is in
-    let lists : RoomOf c.requires.room.room c.requires.room.demands = c.requires.room.lists in
     let servers_s : ℕ = length c.args.caps.now in
-    let servers_few : servers_s ≤ most_servers = omega (arith, needs_size room lists, room.few_servers) in
+    let servers_few : servers_s ≤ most_servers = omega (arith, needs_size room c.requires.room.lists, room.few_servers) in
     omega (arith, servers_few, equal_length {A = ℕ} most_servers 0)
 
 pub slice_bounds-copy-end-2 : goal.slice_bounds-copy-end-2
 slice_bounds-copy-end-2 c =
-    let RoomOf : Room → List ℕ → Type 0 = λ r demands. RoomToDeal r demands c.args.parents.now c.args.left.now c.args.cords.now c.args.nodes.now c.args.lows.now c.args.wants.now c.args.caps.now c.args.scale in
     let room : Accepted c.requires.room.room = accepted c.requires.room.table c.requires.room.room c.requires.room.end c.requires.room.is in
-    let lists : RoomOf c.requires.room.room c.requires.room.demands = c.requires.room.lists in
     let servers_s : ℕ = length c.args.caps.now in
-    let servers_few : servers_s ≤ most_servers = omega (arith, needs_size room lists, room.few_servers) in
+    let servers_few : servers_s ≤ most_servers = omega (arith, needs_size room c.requires.room.lists, room.few_servers) in
     sym (zeros-front most_servers _ servers_few)
 
 pub slice_bounds-order-end : goal.slice_bounds-order-end
 slice_bounds-order-end c =
-    let RoomOf : Room → List ℕ → Type 0 = λ r demands. RoomToDeal r demands c.args.parents.now c.args.left.now c.args.cords.now c.args.nodes.now c.args.lows.now c.args.wants.now c.args.caps.now c.args.scale in
     let room : Accepted c.requires.room.room = accepted c.requires.room.table c.requires.room.room c.requires.room.end c.requires.room.is in
-    let lists : RoomOf c.requires.room.room c.requires.room.demands = c.requires.room.lists in
     let cords_s : ℕ = length c.args.nodes.now in
-    let cords_few : cords_s ≤ most_cords = omega (arith, (levels_cords room lists).few, cord-count room lists) in
+    let cords_few : cords_s ≤ most_cords = omega (arith, (levels_cords room c.requires.room.lists).few, cord-count room c.requires.room.lists) in
     omega (arith, cords_few, equal_length {A = ℕ} most_cords 0)
 
 pub slice_bounds-list_levels-end : goal.slice_bounds-list_levels-end
 slice_bounds-list_levels-end c =
-    let RoomOf : Room → List ℕ → Type 0 = λ r demands. RoomToDeal r demands c.args.parents.now c.args.left.now c.args.cords.now c.args.nodes.now c.args.lows.now c.args.wants.now c.args.caps.now c.args.scale in
     let room : Accepted c.requires.room.room = accepted c.requires.room.table c.requires.room.room c.requires.room.end c.requires.room.is in
-    let lists : RoomOf c.requires.room.room c.requires.room.demands = c.requires.room.lists in
     let cords_s : ℕ = length c.args.nodes.now in
-    let cords_few : cords_s ≤ most_cords = omega (arith, (levels_cords room lists).few, cord-count room lists) in
+    let cords_few : cords_s ≤ most_cords = omega (arith, (levels_cords room c.requires.room.lists).few, cord-count room c.requires.room.lists) in
     sym (zeros-front most_cords _ cords_few)
 
 pub list_levels-requires : goal.list_levels-requires
 list_levels-requires c =
-    let RoomOf : Room → List ℕ → Type 0 = λ r demands. RoomToDeal r demands c.args.parents.now c.args.left.now c.args.cords.now c.args.nodes.now c.args.lows.now c.args.wants.now c.args.caps.now c.args.scale in
     let room : Accepted c.requires.room.room = accepted c.requires.room.table c.requires.room.room c.requires.room.end c.requires.room.is in
-    let lists : RoomOf c.requires.room.room c.requires.room.demands = c.requires.room.lists in
     let cords_s : ℕ = length c.args.nodes.now in
-    let cords_few : cords_s ≤ most_cords = omega (arith, (levels_cords room lists).few, cord-count room lists) in
+    let cords_few : cords_s ≤ most_cords = omega (arith, (levels_cords room c.requires.room.lists).few, cord-count room c.requires.room.lists) in
     record {
-      nodes = levels_nodes room lists;
-      cords = (levels_cords room lists, zeros-front most_cords _ cords_few ∙ sym (cord-count room lists), zeros_rows highest_rank most_nodes);
+      nodes = levels_nodes room c.requires.room.lists;
+      cords = (levels_cords room c.requires.room.lists, zeros-front most_cords _ cords_few ∙ sym (cord-count room c.requires.room.lists), zeros_rows highest_rank most_nodes);
       rows = (zeros_rows highest_rank 4, λ j. zeros_cells highest_rank 4 j to_column);
     }
 
 pub slice_bounds-order-end-2 : goal.slice_bounds-order-end-2
 slice_bounds-order-end-2 c =
-    let RoomOf : Room → List ℕ → Type 0 = λ r demands. RoomToDeal r demands c.args.parents.now c.args.left.now c.args.cords.now c.args.nodes.now c.args.lows.now c.args.wants.now c.args.caps.now c.args.scale in
     let room : Accepted c.requires.room.room = accepted c.requires.room.table c.requires.room.room c.requires.room.end c.requires.room.is in
-    let lists : RoomOf c.requires.room.room c.requires.room.demands = c.requires.room.lists in
     let cords_s : ℕ = length c.args.nodes.now in
-    let cords_few : cords_s ≤ most_cords = omega (arith, (levels_cords room lists).few, cord-count room lists) in
+    let cords_few : cords_s ≤ most_cords = omega (arith, (levels_cords room c.requires.room.lists).few, cord-count room c.requires.room.lists) in
     let order_back : List ℕ = c.list_levels.new.order in
     let order_lent : Lent cords_s (replicate most_cords 0) order_back = lent-zeros most_cords cords_few c.list_levels.auto.order in
     lent_few order_lent
 
 pub slice_bounds-deal-end : goal.slice_bounds-deal-end
 slice_bounds-deal-end c =
-    let RoomOf : Room → List ℕ → Type 0 = λ r demands. RoomToDeal r demands c.args.parents.now c.args.left.now c.args.cords.now c.args.nodes.now c.args.lows.now c.args.wants.now c.args.caps.now c.args.scale in
     let room : Accepted c.requires.room.room = accepted c.requires.room.table c.requires.room.room c.requires.room.end c.requires.room.is in
-    let lists : RoomOf c.requires.room.room c.requires.room.demands = c.requires.room.lists in
     let cords_s : ℕ = length c.args.nodes.now in
-    let cords_few : cords_s ≤ most_cords = omega (arith, (levels_cords room lists).few, cord-count room lists) in
+    let cords_few : cords_s ≤ most_cords = omega (arith, (levels_cords room c.requires.room.lists).few, cord-count room c.requires.room.lists) in
     let order_back : List ℕ = c.list_levels.new.order in
     let order_lent : Lent cords_s (replicate most_cords 0) order_back = lent-zeros most_cords cords_few c.list_levels.auto.order in
     lent-front order_lent
 
 pub slice_bounds-first_left-end-2 : goal.slice_bounds-first_left-end-2
 slice_bounds-first_left-end-2 c =
-    let RoomOf : Room → List ℕ → Type 0 = λ r demands. RoomToDeal r demands c.args.parents.now c.args.left.now c.args.cords.now c.args.nodes.now c.args.lows.now c.args.wants.now c.args.caps.now c.args.scale in
     let room : Accepted c.requires.room.room = accepted c.requires.room.table c.requires.room.room c.requires.room.end c.requires.room.is in
-    let lists : RoomOf c.requires.room.room c.requires.room.demands = c.requires.room.lists in
     let nodes_s : ℕ = length c.args.parents.now in
-    let nodes_few : nodes_s ≤ most_nodes = (levels_nodes room lists).0 in
+    let nodes_few : nodes_s ≤ most_nodes = (levels_nodes room c.requires.room.lists).0 in
     let first_left_back : List ℕ = c.copy.new.to in
     let first_left_lent : Lent nodes_s (replicate most_nodes 0) first_left_back = lent-zeros most_nodes nodes_few c.copy.auto.to in
     lent_few first_left_lent
 
 pub slice_bounds-deal-end-2 : goal.slice_bounds-deal-end-2
 slice_bounds-deal-end-2 c =
-    let RoomOf : Room → List ℕ → Type 0 = λ r demands. RoomToDeal r demands c.args.parents.now c.args.left.now c.args.cords.now c.args.nodes.now c.args.lows.now c.args.wants.now c.args.caps.now c.args.scale in
     let room : Accepted c.requires.room.room = accepted c.requires.room.table c.requires.room.room c.requires.room.end c.requires.room.is in
-    let lists : RoomOf c.requires.room.room c.requires.room.demands = c.requires.room.lists in
     let nodes_s : ℕ = length c.args.parents.now in
-    let nodes_few : nodes_s ≤ most_nodes = (levels_nodes room lists).0 in
+    let nodes_few : nodes_s ≤ most_nodes = (levels_nodes room c.requires.room.lists).0 in
     let first_left_back : List ℕ = c.copy.new.to in
     let first_left_lent : Lent nodes_s (replicate most_nodes 0) first_left_back = lent-zeros most_nodes nodes_few c.copy.auto.to in
     lent-front first_left_lent
 
 pub slice_bounds-first_cuts-end : goal.slice_bounds-first_cuts-end
 slice_bounds-first_cuts-end c =
-    let RoomOf : Room → List ℕ → Type 0 = λ r demands. RoomToDeal r demands c.args.parents.now c.args.left.now c.args.cords.now c.args.nodes.now c.args.lows.now c.args.wants.now c.args.caps.now c.args.scale in
     let room : Accepted c.requires.room.room = accepted c.requires.room.table c.requires.room.room c.requires.room.end c.requires.room.is in
-    let lists : RoomOf c.requires.room.room c.requires.room.demands = c.requires.room.lists in
     let nodes_s : ℕ = length c.args.parents.now in
-    let nodes_few : nodes_s ≤ most_nodes = (levels_nodes room lists).0 in
+    let nodes_few : nodes_s ≤ most_nodes = (levels_nodes room c.requires.room.lists).0 in
     omega (arith, nodes_few, equal_length {A = ℕ} most_nodes 0)
 
 pub slice_bounds-deal-end-3 : goal.slice_bounds-deal-end-3
 slice_bounds-deal-end-3 c =
-    let RoomOf : Room → List ℕ → Type 0 = λ r demands. RoomToDeal r demands c.args.parents.now c.args.left.now c.args.cords.now c.args.nodes.now c.args.lows.now c.args.wants.now c.args.caps.now c.args.scale in
     let room : Accepted c.requires.room.room = accepted c.requires.room.table c.requires.room.room c.requires.room.end c.requires.room.is in
-    let lists : RoomOf c.requires.room.room c.requires.room.demands = c.requires.room.lists in
     let nodes_s : ℕ = length c.args.parents.now in
-    let nodes_few : nodes_s ≤ most_nodes = (levels_nodes room lists).0 in
+    let nodes_few : nodes_s ≤ most_nodes = (levels_nodes room c.requires.room.lists).0 in
     sym (zeros-front most_nodes _ nodes_few)
 
 pub deal-requires : goal.deal-requires
 deal-requires c =
     let RoomOf : Room → List ℕ → Type 0 = λ r demands. RoomToDeal r demands c.args.parents.now c.args.left.now c.args.cords.now c.args.nodes.now c.args.lows.now c.args.wants.now c.args.caps.now c.args.scale in
     let room : Accepted c.requires.room.room = accepted c.requires.room.table c.requires.room.room c.requires.room.end c.requires.room.is in
-    let lists : RoomOf c.requires.room.room c.requires.room.demands = c.requires.room.lists in
     let nodes_s : ℕ = length c.args.parents.now in
     let cords_s : ℕ = length c.args.nodes.now in
-    let nodes_few : nodes_s ≤ most_nodes = (levels_nodes room lists).0 in
-    let cords_few : cords_s ≤ most_cords = omega (arith, (levels_cords room lists).few, cord-count room lists) in
-    let first_left_back : List ℕ = c.copy.new.to in
-    let first_left_lent : Lent nodes_s (replicate most_nodes 0) first_left_back = lent-zeros most_nodes nodes_few c.copy.auto.to in
-    let levels_back : List (List ℕ) = c.list_levels.new.levels in
-    let order_back : List ℕ = c.list_levels.new.order in
-    let order_lent : Lent cords_s (replicate most_cords 0) order_back = lent-zeros most_cords cords_few c.list_levels.auto.order in
-    let actives_back : List (List ℕ) = c.list_levels.new.actives in
-    let first_left_after : List ℕ = rejoined nodes_s (replicate most_nodes 0) first_left_back in
-    let first_left_is : take nodes_s first_left_after ≡ c.args.left.now = lent_again first_left_lent ∙ c.copy.ensures.copied ∙ sets_all _ _ (zeros-front most_nodes _ nodes_few ∙ sym lists.lists.spare_size) in
-    let order_after : List ℕ = rejoined cords_s (replicate most_cords 0) order_back in
-    let listed_at : LevelLists c.args.parents.now (column node_column c.args.cords.now) (column level_column c.args.cords.now) levels_back (take cords_s order_after) actives_back = rw (lent_again order_lent) c.list_levels.ensures.listed in
-    let first_lent : (r : Room) → Accepted r → (demands : List ℕ) → RoomOf r demands → DealGiven c.args.parents.now levels_back (take cords_s order_after) actives_back c.args.nodes.now c.args.lows.now c.args.wants.now (take nodes_s first_left_after) (limits_of r) (levels_of r) c.args.lows.now = λ r ok demands of. first_given ok of listed_at first_left_is in
-    record { lists = (record { limits = limits_of c.requires.room.room; levels = levels_of c.requires.room.room; lows = c.args.lows.now; given = first_lent _ room _ lists }, blank_marks nodes_few refl, c.requires.blank.1) }
+    let nodes_few : nodes_s ≤ most_nodes = (levels_nodes room c.requires.room.lists).0 in
+    let cords_few : cords_s ≤ most_cords = omega (arith, (levels_cords room c.requires.room.lists).few, cord-count room c.requires.room.lists) in
+    let first_left_lent : Lent nodes_s (replicate most_nodes 0) c.copy.new.to = lent-zeros most_nodes nodes_few c.copy.auto.to in
+    let order_lent : Lent cords_s (replicate most_cords 0) c.list_levels.new.order = lent-zeros most_cords cords_few c.list_levels.auto.order in
+    let first_left_after : List ℕ = rejoined nodes_s (replicate most_nodes 0) c.copy.new.to in
+    let first_left_is : take nodes_s first_left_after ≡ c.args.left.now = lent_again first_left_lent ∙ c.copy.ensures.copied ∙ sets_all _ _ (zeros-front most_nodes _ nodes_few ∙ sym c.requires.room.lists.lists.spare_size) in
+    let order_after : List ℕ = rejoined cords_s (replicate most_cords 0) c.list_levels.new.order in
+    let listed_at : LevelLists c.args.parents.now (column node_column c.args.cords.now) (column level_column c.args.cords.now) c.list_levels.new.levels (take cords_s order_after) c.list_levels.new.actives = rw (lent_again order_lent) c.list_levels.ensures.listed in
+    let first_lent : (r : Room) → Accepted r → (demands : List ℕ) → RoomOf r demands → DealGiven c.args.parents.now c.list_levels.new.levels (take cords_s order_after) c.list_levels.new.actives c.args.nodes.now c.args.lows.now c.args.wants.now (take nodes_s first_left_after) (limits_of r) (levels_of r) c.args.lows.now = λ r ok demands of. first_given ok of listed_at first_left_is in
+    record { lists = (record { limits = limits_of c.requires.room.room; levels = levels_of c.requires.room.room; lows = c.args.lows.now; given = first_lent _ room _ c.requires.room.lists }, blank_marks nodes_few refl, c.requires.blank.1) }
 
 pub slice_bounds-usable-end-2 : goal.slice_bounds-usable-end-2
 slice_bounds-usable-end-2 c =
-    let RoomOf : Room → List ℕ → Type 0 = λ r demands. RoomToDeal r demands c.args.parents.now c.args.left.now c.args.cords.now c.args.nodes.now c.args.lows.now c.args.wants.now c.args.caps.now c.args.scale in
     let room : Accepted c.requires.room.room = accepted c.requires.room.table c.requires.room.room c.requires.room.end c.requires.room.is in
-    let lists : RoomOf c.requires.room.room c.requires.room.demands = c.requires.room.lists in
     let servers_s : ℕ = length c.args.caps.now in
-    let servers_few : servers_s ≤ most_servers = omega (arith, needs_size room lists, room.few_servers) in
+    let servers_few : servers_s ≤ most_servers = omega (arith, needs_size room c.requires.room.lists, room.few_servers) in
     let needs-back : List ℕ = c.copy-2.new.to in
     let needs-lent : Lent servers_s (replicate most_servers 0) needs-back = lent-zeros most_servers servers_few c.copy-2.auto.to in
     lent_few needs-lent
 
 pub slice_bounds-usable_of-end : goal.slice_bounds-usable_of-end
 slice_bounds-usable_of-end c =
-    let RoomOf : Room → List ℕ → Type 0 = λ r demands. RoomToDeal r demands c.args.parents.now c.args.left.now c.args.cords.now c.args.nodes.now c.args.lows.now c.args.wants.now c.args.caps.now c.args.scale in
     let room : Accepted c.requires.room.room = accepted c.requires.room.table c.requires.room.room c.requires.room.end c.requires.room.is in
-    let lists : RoomOf c.requires.room.room c.requires.room.demands = c.requires.room.lists in
     let servers_s : ℕ = length c.args.caps.now in
-    let servers_few : servers_s ≤ most_servers = omega (arith, needs_size room lists, room.few_servers) in
+    let servers_few : servers_s ≤ most_servers = omega (arith, needs_size room c.requires.room.lists, room.few_servers) in
     let needs-back : List ℕ = c.copy-2.new.to in
     let needs-lent : Lent servers_s (replicate most_servers 0) needs-back = lent-zeros most_servers servers_few c.copy-2.auto.to in
     lent-front needs-lent
 
 pub usable_of-requires : goal.usable_of-requires
 usable_of-requires c =
-    let RoomOf : Room → List ℕ → Type 0 = λ r demands. RoomToDeal r demands c.args.parents.now c.args.left.now c.args.cords.now c.args.nodes.now c.args.lows.now c.args.wants.now c.args.caps.now c.args.scale in
     let room : Accepted c.requires.room.room = accepted c.requires.room.table c.requires.room.room c.requires.room.end c.requires.room.is in
-    let lists : RoomOf c.requires.room.room c.requires.room.demands = c.requires.room.lists in
     let cords_s : ℕ = length c.args.nodes.now in
     let servers_s : ℕ = length c.args.caps.now in
-    let servers_few : servers_s ≤ most_servers = omega (arith, needs_size room lists, room.few_servers) in
-    let needs-back : List ℕ = c.copy-2.new.to in
-    let needs-lent : Lent servers_s (replicate most_servers 0) needs-back = lent-zeros most_servers servers_few c.copy-2.auto.to in
-    let grants_f : List ℕ = c.deal.new.grants in
-    let grants_size : length grants_f ≡ cords_s = c.deal.auto.grants ∙ c.requires.blank.1 in
-    let needs-after : List ℕ = rejoined servers_s (replicate most_servers 0) needs-back in
+    let servers_few : servers_s ≤ most_servers = omega (arith, needs_size room c.requires.room.lists, room.few_servers) in
+    let needs-lent : Lent servers_s (replicate most_servers 0) c.copy-2.new.to = lent-zeros most_servers servers_few c.copy-2.auto.to in
+    let grants_size : length c.deal.new.grants ≡ cords_s = c.deal.auto.grants ∙ c.requires.blank.1 in
+    let needs-after : List ℕ = rejoined servers_s (replicate most_servers 0) c.copy-2.new.to in
     let needs_are : take servers_s needs-after ≡ c.args.caps.now = lent_again needs-lent ∙ c.copy-2.ensures.copied ∙ sets_all _ _ (zeros-front most_servers _ servers_few) in
-    record { lists = rw needs_are (server-lists room lists grants_size) }
+    record { lists = rw needs_are (server-lists room c.requires.room.lists grants_size) }
 
 pub slice_bounds-usable-end-3 : goal.slice_bounds-usable-end-3
 slice_bounds-usable-end-3 c =
-    let RoomOf : Room → List ℕ → Type 0 = λ r demands. RoomToDeal r demands c.args.parents.now c.args.left.now c.args.cords.now c.args.nodes.now c.args.lows.now c.args.wants.now c.args.caps.now c.args.scale in
     let room : Accepted c.requires.room.room = accepted c.requires.room.table c.requires.room.room c.requires.room.end c.requires.room.is in
-    let lists : RoomOf c.requires.room.room c.requires.room.demands = c.requires.room.lists in
     let servers_s : ℕ = length c.args.caps.now in
-    let servers_few : servers_s ≤ most_servers = omega (arith, needs_size room lists, room.few_servers) in
+    let servers_few : servers_s ≤ most_servers = omega (arith, needs_size room c.requires.room.lists, room.few_servers) in
     let needs-back : List ℕ = c.copy-2.new.to in
     let needs-lent : Lent servers_s (replicate most_servers 0) needs-back = lent-zeros most_servers servers_few c.copy-2.auto.to in
     let needs-after : List ℕ = rejoined servers_s (replicate most_servers 0) needs-back in
@@ -231,11 +190,9 @@ slice_bounds-usable-end-3 c =
 
 pub slice_bounds-reclaim-end : goal.slice_bounds-reclaim-end
 slice_bounds-reclaim-end c =
-    let RoomOf : Room → List ℕ → Type 0 = λ r demands. RoomToDeal r demands c.args.parents.now c.args.left.now c.args.cords.now c.args.nodes.now c.args.lows.now c.args.wants.now c.args.caps.now c.args.scale in
     let room : Accepted c.requires.room.room = accepted c.requires.room.table c.requires.room.room c.requires.room.end c.requires.room.is in
-    let lists : RoomOf c.requires.room.room c.requires.room.demands = c.requires.room.lists in
     let servers_s : ℕ = length c.args.caps.now in
-    let servers_few : servers_s ≤ most_servers = omega (arith, needs_size room lists, room.few_servers) in
+    let servers_few : servers_s ≤ most_servers = omega (arith, needs_size room c.requires.room.lists, room.few_servers) in
     let needs-back : List ℕ = c.copy-2.new.to in
     let needs-lent : Lent servers_s (replicate most_servers 0) needs-back = lent-zeros most_servers servers_few c.copy-2.auto.to in
     let needs-after : List ℕ = rejoined servers_s (replicate most_servers 0) needs-back in
@@ -245,77 +202,61 @@ slice_bounds-reclaim-end c =
 
 pub slice_bounds-used-end : goal.slice_bounds-used-end
 slice_bounds-used-end c =
-    let RoomOf : Room → List ℕ → Type 0 = λ r demands. RoomToDeal r demands c.args.parents.now c.args.left.now c.args.cords.now c.args.nodes.now c.args.lows.now c.args.wants.now c.args.caps.now c.args.scale in
     let room : Accepted c.requires.room.room = accepted c.requires.room.table c.requires.room.room c.requires.room.end c.requires.room.is in
-    let lists : RoomOf c.requires.room.room c.requires.room.demands = c.requires.room.lists in
     let cords_s : ℕ = length c.args.nodes.now in
-    let cords_few : cords_s ≤ most_cords = omega (arith, (levels_cords room lists).few, cord-count room lists) in
+    let cords_few : cords_s ≤ most_cords = omega (arith, (levels_cords room c.requires.room.lists).few, cord-count room c.requires.room.lists) in
     omega (arith, cords_few, equal_length {A = ℕ} most_cords 0)
 
 pub slice_bounds-reclaim-end-2 : goal.slice_bounds-reclaim-end-2
 slice_bounds-reclaim-end-2 c =
-    let RoomOf : Room → List ℕ → Type 0 = λ r demands. RoomToDeal r demands c.args.parents.now c.args.left.now c.args.cords.now c.args.nodes.now c.args.lows.now c.args.wants.now c.args.caps.now c.args.scale in
     let room : Accepted c.requires.room.room = accepted c.requires.room.table c.requires.room.room c.requires.room.end c.requires.room.is in
-    let lists : RoomOf c.requires.room.room c.requires.room.demands = c.requires.room.lists in
     let cords_s : ℕ = length c.args.nodes.now in
-    let cords_few : cords_s ≤ most_cords = omega (arith, (levels_cords room lists).few, cord-count room lists) in
+    let cords_few : cords_s ≤ most_cords = omega (arith, (levels_cords room c.requires.room.lists).few, cord-count room c.requires.room.lists) in
     sym (zeros-front most_cords _ cords_few)
 
 pub reclaim-freed-requires : goal.reclaim-freed-requires
 reclaim-freed-requires c =
     let RoomOf : Room → List ℕ → Type 0 = λ r demands. RoomToDeal r demands c.args.parents.now c.args.left.now c.args.cords.now c.args.nodes.now c.args.lows.now c.args.wants.now c.args.caps.now c.args.scale in
     let room : Accepted c.requires.room.room = accepted c.requires.room.table c.requires.room.room c.requires.room.end c.requires.room.is in
-    let lists : RoomOf c.requires.room.room c.requires.room.demands = c.requires.room.lists in
     let nodes_s : ℕ = length c.args.parents.now in
     let cords_s : ℕ = length c.args.nodes.now in
     let servers_s : ℕ = length c.args.caps.now in
-    let nodes_few : nodes_s ≤ most_nodes = (levels_nodes room lists).0 in
-    let cords_few : cords_s ≤ most_cords = omega (arith, (levels_cords room lists).few, cord-count room lists) in
-    let servers_few : servers_s ≤ most_servers = omega (arith, needs_size room lists, room.few_servers) in
-    let first_left_back : List ℕ = c.copy.new.to in
-    let first_left_lent : Lent nodes_s (replicate most_nodes 0) first_left_back = lent-zeros most_nodes nodes_few c.copy.auto.to in
-    let needs-back : List ℕ = c.copy-2.new.to in
-    let needs-lent : Lent servers_s (replicate most_servers 0) needs-back = lent-zeros most_servers servers_few c.copy-2.auto.to in
-    let levels_back : List (List ℕ) = c.list_levels.new.levels in
-    let order_back : List ℕ = c.list_levels.new.order in
-    let order_lent : Lent cords_s (replicate most_cords 0) order_back = lent-zeros most_cords cords_few c.list_levels.auto.order in
-    let actives_back : List (List ℕ) = c.list_levels.new.actives in
-    let grants_f : List ℕ = c.deal.new.grants in
-    let grants_size : length grants_f ≡ cords_s = c.deal.auto.grants ∙ c.requires.blank.1 in
-    let needs-after : List ℕ = rejoined servers_s (replicate most_servers 0) needs-back in
-    let usable-back : List ℕ = c.usable_of.new.usable in
-    let usable-lent : Lent servers_s needs-after usable-back = lent (lent_few needs-lent) c.usable_of.auto.usable in
-    let first_left_after : List ℕ = rejoined nodes_s (replicate most_nodes 0) first_left_back in
-    let first_left_is : take nodes_s first_left_after ≡ c.args.left.now = lent_again first_left_lent ∙ c.copy.ensures.copied ∙ sets_all _ _ (zeros-front most_nodes _ nodes_few ∙ sym lists.lists.spare_size) in
+    let nodes_few : nodes_s ≤ most_nodes = (levels_nodes room c.requires.room.lists).0 in
+    let cords_few : cords_s ≤ most_cords = omega (arith, (levels_cords room c.requires.room.lists).few, cord-count room c.requires.room.lists) in
+    let servers_few : servers_s ≤ most_servers = omega (arith, needs_size room c.requires.room.lists, room.few_servers) in
+    let first_left_lent : Lent nodes_s (replicate most_nodes 0) c.copy.new.to = lent-zeros most_nodes nodes_few c.copy.auto.to in
+    let needs-lent : Lent servers_s (replicate most_servers 0) c.copy-2.new.to = lent-zeros most_servers servers_few c.copy-2.auto.to in
+    let order_lent : Lent cords_s (replicate most_cords 0) c.list_levels.new.order = lent-zeros most_cords cords_few c.list_levels.auto.order in
+    let grants_size : length c.deal.new.grants ≡ cords_s = c.deal.auto.grants ∙ c.requires.blank.1 in
+    let needs-after : List ℕ = rejoined servers_s (replicate most_servers 0) c.copy-2.new.to in
+    let usable-lent : Lent servers_s needs-after c.usable_of.new.usable = lent (lent_few needs-lent) c.usable_of.auto.usable in
+    let first_left_after : List ℕ = rejoined nodes_s (replicate most_nodes 0) c.copy.new.to in
+    let first_left_is : take nodes_s first_left_after ≡ c.args.left.now = lent_again first_left_lent ∙ c.copy.ensures.copied ∙ sets_all _ _ (zeros-front most_nodes _ nodes_few ∙ sym c.requires.room.lists.lists.spare_size) in
     let needs_are : take servers_s needs-after ≡ c.args.caps.now = lent_again needs-lent ∙ c.copy-2.ensures.copied ∙ sets_all _ _ (zeros-front most_servers _ servers_few) in
-    let order_after : List ℕ = rejoined cords_s (replicate most_cords 0) order_back in
-    let listed_at : LevelLists c.args.parents.now (column node_column c.args.cords.now) (column level_column c.args.cords.now) levels_back (take cords_s order_after) actives_back = rw (lent_again order_lent) c.list_levels.ensures.listed in
-    let first_lent : (r : Room) → Accepted r → (demands : List ℕ) → RoomOf r demands → DealGiven c.args.parents.now levels_back (take cords_s order_after) actives_back c.args.nodes.now c.args.lows.now c.args.wants.now (take nodes_s first_left_after) (limits_of r) (levels_of r) c.args.lows.now = λ r ok demands of. first_given ok of listed_at first_left_is in
-    let first-grants : (r : Room) → Accepted r → (demands : List ℕ) → RoomOf r demands → grants_f ≡ first_grants r demands = λ r ok demands of. first_made ok of (c.deal.ensures.dealt (limits_of r) (levels_of r) c.args.lows.now (first_lent _ ok _ of)) in
-    let usable_after : List ℕ = rejoined servers_s needs-after usable-back in
-    let usable_is : take servers_s usable_after ≡ usable_from c.args.scale (column share_column c.args.cords.now) (column server_column c.args.cords.now) c.args.caps.now grants_f = lent_again usable-lent
+    let order_after : List ℕ = rejoined cords_s (replicate most_cords 0) c.list_levels.new.order in
+    let listed_at : LevelLists c.args.parents.now (column node_column c.args.cords.now) (column level_column c.args.cords.now) c.list_levels.new.levels (take cords_s order_after) c.list_levels.new.actives = rw (lent_again order_lent) c.list_levels.ensures.listed in
+    let first_lent : (r : Room) → Accepted r → (demands : List ℕ) → RoomOf r demands → DealGiven c.args.parents.now c.list_levels.new.levels (take cords_s order_after) c.list_levels.new.actives c.args.nodes.now c.args.lows.now c.args.wants.now (take nodes_s first_left_after) (limits_of r) (levels_of r) c.args.lows.now = λ r ok demands of. first_given ok of listed_at first_left_is in
+    let first-grants : (r : Room) → Accepted r → (demands : List ℕ) → RoomOf r demands → c.deal.new.grants ≡ first_grants r demands = λ r ok demands of. first_made ok of (c.deal.ensures.dealt (limits_of r) (levels_of r) c.args.lows.now (first_lent _ ok _ of)) in
+    let usable_after : List ℕ = rejoined servers_s needs-after c.usable_of.new.usable in
+    let usable_is : take servers_s usable_after ≡ usable_from c.args.scale (column share_column c.args.cords.now) (column server_column c.args.cords.now) c.args.caps.now c.deal.new.grants = lent_again usable-lent
     ∙ c.usable_of.ensures.usable
-    ∙ ap (λ (needed : List ℕ). usable_from c.args.scale (column share_column c.args.cords.now) (column server_column c.args.cords.now) needed grants_f) needs_are in
-    record { lists = (reclaim_asks room lists (first-grants _ room _ lists) usable_is grants_size, zeros-front most_cords _ cords_few ∙ sym (cord-count room lists), wants_count room lists ∙ sym (cord-count room lists)) }
+    ∙ ap (λ (needed : List ℕ). usable_from c.args.scale (column share_column c.args.cords.now) (column server_column c.args.cords.now) needed c.deal.new.grants) needs_are in
+    record { lists = (reclaim_asks room c.requires.room.lists (first-grants _ room _ c.requires.room.lists) usable_is grants_size, zeros-front most_cords _ cords_few ∙ sym (cord-count room c.requires.room.lists), wants_count room c.requires.room.lists ∙ sym (cord-count room c.requires.room.lists)) }
 
 pub slice_bounds-used-end-2 : goal.slice_bounds-used-end-2
 slice_bounds-used-end-2 c =
-    let RoomOf : Room → List ℕ → Type 0 = λ r demands. RoomToDeal r demands c.args.parents.now c.args.left.now c.args.cords.now c.args.nodes.now c.args.lows.now c.args.wants.now c.args.caps.now c.args.scale in
     let room : Accepted c.requires.room.room = accepted c.requires.room.table c.requires.room.room c.requires.room.end c.requires.room.is in
-    let lists : RoomOf c.requires.room.room c.requires.room.demands = c.requires.room.lists in
     let cords_s : ℕ = length c.args.nodes.now in
-    let cords_few : cords_s ≤ most_cords = omega (arith, (levels_cords room lists).few, cord-count room lists) in
+    let cords_few : cords_s ≤ most_cords = omega (arith, (levels_cords room c.requires.room.lists).few, cord-count room c.requires.room.lists) in
     let starts_back : List ℕ = c.reclaim-freed.new.starts in
     let starts_lent : Lent cords_s (replicate most_cords 0) starts_back = lent-zeros most_cords cords_few c.reclaim-freed.auto.starts in
     lent_few starts_lent
 
 pub slice_bounds-raise_starts-end : goal.slice_bounds-raise_starts-end
 slice_bounds-raise_starts-end c =
-    let RoomOf : Room → List ℕ → Type 0 = λ r demands. RoomToDeal r demands c.args.parents.now c.args.left.now c.args.cords.now c.args.nodes.now c.args.lows.now c.args.wants.now c.args.caps.now c.args.scale in
     let room : Accepted c.requires.room.room = accepted c.requires.room.table c.requires.room.room c.requires.room.end c.requires.room.is in
-    let lists : RoomOf c.requires.room.room c.requires.room.demands = c.requires.room.lists in
     let cords_s : ℕ = length c.args.nodes.now in
-    let cords_few : cords_s ≤ most_cords = omega (arith, (levels_cords room lists).few, cord-count room lists) in
+    let cords_few : cords_s ≤ most_cords = omega (arith, (levels_cords room c.requires.room.lists).few, cord-count room c.requires.room.lists) in
     let starts_back : List ℕ = c.reclaim-freed.new.starts in
     let starts_lent : Lent cords_s (replicate most_cords 0) starts_back = lent-zeros most_cords cords_few c.reclaim-freed.auto.starts in
     lent-front starts_lent
@@ -324,83 +265,66 @@ pub raise_starts-requires : goal.raise_starts-requires
 raise_starts-requires c =
     let RoomOf : Room → List ℕ → Type 0 = λ r demands. RoomToDeal r demands c.args.parents.now c.args.left.now c.args.cords.now c.args.nodes.now c.args.lows.now c.args.wants.now c.args.caps.now c.args.scale in
     let room : Accepted c.requires.room.room = accepted c.requires.room.table c.requires.room.room c.requires.room.end c.requires.room.is in
-    let lists : RoomOf c.requires.room.room c.requires.room.demands = c.requires.room.lists in
     let nodes_s : ℕ = length c.args.parents.now in
     let cords_s : ℕ = length c.args.nodes.now in
     let servers_s : ℕ = length c.args.caps.now in
-    let nodes_few : nodes_s ≤ most_nodes = (levels_nodes room lists).0 in
-    let cords_few : cords_s ≤ most_cords = omega (arith, (levels_cords room lists).few, cord-count room lists) in
-    let servers_few : servers_s ≤ most_servers = omega (arith, needs_size room lists, room.few_servers) in
-    let first_left_back : List ℕ = c.copy.new.to in
-    let first_left_lent : Lent nodes_s (replicate most_nodes 0) first_left_back = lent-zeros most_nodes nodes_few c.copy.auto.to in
-    let needs-back : List ℕ = c.copy-2.new.to in
-    let needs-lent : Lent servers_s (replicate most_servers 0) needs-back = lent-zeros most_servers servers_few c.copy-2.auto.to in
-    let levels_back : List (List ℕ) = c.list_levels.new.levels in
-    let order_back : List ℕ = c.list_levels.new.order in
-    let order_lent : Lent cords_s (replicate most_cords 0) order_back = lent-zeros most_cords cords_few c.list_levels.auto.order in
-    let actives_back : List (List ℕ) = c.list_levels.new.actives in
-    let grants_f : List ℕ = c.deal.new.grants in
-    let needs-after : List ℕ = rejoined servers_s (replicate most_servers 0) needs-back in
-    let usable-back : List ℕ = c.usable_of.new.usable in
-    let usable-lent : Lent servers_s needs-after usable-back = lent (lent_few needs-lent) c.usable_of.auto.usable in
-    let starts_back : List ℕ = c.reclaim-freed.new.starts in
-    let starts_lent : Lent cords_s (replicate most_cords 0) starts_back = lent-zeros most_cords cords_few c.reclaim-freed.auto.starts in
-    let first_left_after : List ℕ = rejoined nodes_s (replicate most_nodes 0) first_left_back in
-    let first_left_is : take nodes_s first_left_after ≡ c.args.left.now = lent_again first_left_lent ∙ c.copy.ensures.copied ∙ sets_all _ _ (zeros-front most_nodes _ nodes_few ∙ sym lists.lists.spare_size) in
+    let nodes_few : nodes_s ≤ most_nodes = (levels_nodes room c.requires.room.lists).0 in
+    let cords_few : cords_s ≤ most_cords = omega (arith, (levels_cords room c.requires.room.lists).few, cord-count room c.requires.room.lists) in
+    let servers_few : servers_s ≤ most_servers = omega (arith, needs_size room c.requires.room.lists, room.few_servers) in
+    let first_left_lent : Lent nodes_s (replicate most_nodes 0) c.copy.new.to = lent-zeros most_nodes nodes_few c.copy.auto.to in
+    let needs-lent : Lent servers_s (replicate most_servers 0) c.copy-2.new.to = lent-zeros most_servers servers_few c.copy-2.auto.to in
+    let order_lent : Lent cords_s (replicate most_cords 0) c.list_levels.new.order = lent-zeros most_cords cords_few c.list_levels.auto.order in
+    let needs-after : List ℕ = rejoined servers_s (replicate most_servers 0) c.copy-2.new.to in
+    let usable-lent : Lent servers_s needs-after c.usable_of.new.usable = lent (lent_few needs-lent) c.usable_of.auto.usable in
+    let starts_lent : Lent cords_s (replicate most_cords 0) c.reclaim-freed.new.starts = lent-zeros most_cords cords_few c.reclaim-freed.auto.starts in
+    let first_left_after : List ℕ = rejoined nodes_s (replicate most_nodes 0) c.copy.new.to in
+    let first_left_is : take nodes_s first_left_after ≡ c.args.left.now = lent_again first_left_lent ∙ c.copy.ensures.copied ∙ sets_all _ _ (zeros-front most_nodes _ nodes_few ∙ sym c.requires.room.lists.lists.spare_size) in
     let needs_are : take servers_s needs-after ≡ c.args.caps.now = lent_again needs-lent ∙ c.copy-2.ensures.copied ∙ sets_all _ _ (zeros-front most_servers _ servers_few) in
-    let order_after : List ℕ = rejoined cords_s (replicate most_cords 0) order_back in
-    let listed_at : LevelLists c.args.parents.now (column node_column c.args.cords.now) (column level_column c.args.cords.now) levels_back (take cords_s order_after) actives_back = rw (lent_again order_lent) c.list_levels.ensures.listed in
-    let first_lent : (r : Room) → Accepted r → (demands : List ℕ) → RoomOf r demands → DealGiven c.args.parents.now levels_back (take cords_s order_after) actives_back c.args.nodes.now c.args.lows.now c.args.wants.now (take nodes_s first_left_after) (limits_of r) (levels_of r) c.args.lows.now = λ r ok demands of. first_given ok of listed_at first_left_is in
-    let first-grants : (r : Room) → Accepted r → (demands : List ℕ) → RoomOf r demands → grants_f ≡ first_grants r demands = λ r ok demands of. first_made ok of (c.deal.ensures.dealt (limits_of r) (levels_of r) c.args.lows.now (first_lent _ ok _ of)) in
-    let usable_after : List ℕ = rejoined servers_s needs-after usable-back in
-    let usable_is : take servers_s usable_after ≡ usable_from c.args.scale (column share_column c.args.cords.now) (column server_column c.args.cords.now) c.args.caps.now grants_f = lent_again usable-lent
+    let order_after : List ℕ = rejoined cords_s (replicate most_cords 0) c.list_levels.new.order in
+    let listed_at : LevelLists c.args.parents.now (column node_column c.args.cords.now) (column level_column c.args.cords.now) c.list_levels.new.levels (take cords_s order_after) c.list_levels.new.actives = rw (lent_again order_lent) c.list_levels.ensures.listed in
+    let first_lent : (r : Room) → Accepted r → (demands : List ℕ) → RoomOf r demands → DealGiven c.args.parents.now c.list_levels.new.levels (take cords_s order_after) c.list_levels.new.actives c.args.nodes.now c.args.lows.now c.args.wants.now (take nodes_s first_left_after) (limits_of r) (levels_of r) c.args.lows.now = λ r ok demands of. first_given ok of listed_at first_left_is in
+    let first-grants : (r : Room) → Accepted r → (demands : List ℕ) → RoomOf r demands → c.deal.new.grants ≡ first_grants r demands = λ r ok demands of. first_made ok of (c.deal.ensures.dealt (limits_of r) (levels_of r) c.args.lows.now (first_lent _ ok _ of)) in
+    let usable_after : List ℕ = rejoined servers_s needs-after c.usable_of.new.usable in
+    let usable_is : take servers_s usable_after ≡ usable_from c.args.scale (column share_column c.args.cords.now) (column server_column c.args.cords.now) c.args.caps.now c.deal.new.grants = lent_again usable-lent
     ∙ c.usable_of.ensures.usable
-    ∙ ap (λ (needed : List ℕ). usable_from c.args.scale (column share_column c.args.cords.now) (column server_column c.args.cords.now) needed grants_f) needs_are in
-    let starts_after : List ℕ = rejoined cords_s (replicate most_cords 0) starts_back in
-    let first_q : (r : Room) → Accepted r → (demands : List ℕ) → RoomOf r demands → grants_f ≡ first_grants r demands = λ r ok demands of. first-grants _ ok _ of in
+    ∙ ap (λ (needed : List ℕ). usable_from c.args.scale (column share_column c.args.cords.now) (column server_column c.args.cords.now) needed c.deal.new.grants) needs_are in
+    let starts_after : List ℕ = rejoined cords_s (replicate most_cords 0) c.reclaim-freed.new.starts in
+    let first_q : (r : Room) → Accepted r → (demands : List ℕ) → RoomOf r demands → c.deal.new.grants ≡ first_grants r demands = λ r ok demands of. first-grants _ ok _ of in
     let starts_are : (r : Room) → Accepted r → (demands : List ℕ) → RoomOf r demands → take cords_s starts_after ≡ first_used r demands = λ r ok demands of. lent_again starts_lent ∙ first-used ok of (first_q _ ok _ of) usable_is c.reclaim-freed.ensures.starts in
-    record { raisable = raisable room lists (starts_are _ room _ lists) }
+    record { raisable = raisable room c.requires.room.lists (starts_are _ room _ c.requires.room.lists) }
 
 pub slice_bounds-order-end-3 : goal.slice_bounds-order-end-3
 slice_bounds-order-end-3 c =
-    let RoomOf : Room → List ℕ → Type 0 = λ r demands. RoomToDeal r demands c.args.parents.now c.args.left.now c.args.cords.now c.args.nodes.now c.args.lows.now c.args.wants.now c.args.caps.now c.args.scale in
     let room : Accepted c.requires.room.room = accepted c.requires.room.table c.requires.room.room c.requires.room.end c.requires.room.is in
-    let lists : RoomOf c.requires.room.room c.requires.room.demands = c.requires.room.lists in
     let cords_s : ℕ = length c.args.nodes.now in
-    let cords_few : cords_s ≤ most_cords = omega (arith, (levels_cords room lists).few, cord-count room lists) in
+    let cords_few : cords_s ≤ most_cords = omega (arith, (levels_cords room c.requires.room.lists).few, cord-count room c.requires.room.lists) in
     let order_back : List ℕ = c.list_levels.new.order in
     let order_lent : Lent cords_s (replicate most_cords 0) order_back = lent-zeros most_cords cords_few c.list_levels.auto.order in
     lent_few order_lent
 
 pub slice_bounds-deal-end-4 : goal.slice_bounds-deal-end-4
 slice_bounds-deal-end-4 c =
-    let RoomOf : Room → List ℕ → Type 0 = λ r demands. RoomToDeal r demands c.args.parents.now c.args.left.now c.args.cords.now c.args.nodes.now c.args.lows.now c.args.wants.now c.args.caps.now c.args.scale in
     let room : Accepted c.requires.room.room = accepted c.requires.room.table c.requires.room.room c.requires.room.end c.requires.room.is in
-    let lists : RoomOf c.requires.room.room c.requires.room.demands = c.requires.room.lists in
     let cords_s : ℕ = length c.args.nodes.now in
-    let cords_few : cords_s ≤ most_cords = omega (arith, (levels_cords room lists).few, cord-count room lists) in
+    let cords_few : cords_s ≤ most_cords = omega (arith, (levels_cords room c.requires.room.lists).few, cord-count room c.requires.room.lists) in
     let order_back : List ℕ = c.list_levels.new.order in
     let order_lent : Lent cords_s (replicate most_cords 0) order_back = lent-zeros most_cords cords_few c.list_levels.auto.order in
     lent-front order_lent
 
 pub slice_bounds-used-end-3 : goal.slice_bounds-used-end-3
 slice_bounds-used-end-3 c =
-    let RoomOf : Room → List ℕ → Type 0 = λ r demands. RoomToDeal r demands c.args.parents.now c.args.left.now c.args.cords.now c.args.nodes.now c.args.lows.now c.args.wants.now c.args.caps.now c.args.scale in
     let room : Accepted c.requires.room.room = accepted c.requires.room.table c.requires.room.room c.requires.room.end c.requires.room.is in
-    let lists : RoomOf c.requires.room.room c.requires.room.demands = c.requires.room.lists in
     let cords_s : ℕ = length c.args.nodes.now in
-    let cords_few : cords_s ≤ most_cords = omega (arith, (levels_cords room lists).few, cord-count room lists) in
+    let cords_few : cords_s ≤ most_cords = omega (arith, (levels_cords room c.requires.room.lists).few, cord-count room c.requires.room.lists) in
     let starts_back : List ℕ = c.reclaim-freed.new.starts in
     let starts_lent : Lent cords_s (replicate most_cords 0) starts_back = lent-zeros most_cords cords_few c.reclaim-freed.auto.starts in
     lent_few starts_lent
 
 pub slice_bounds-deal-end-5 : goal.slice_bounds-deal-end-5
 slice_bounds-deal-end-5 c =
-    let RoomOf : Room → List ℕ → Type 0 = λ r demands. RoomToDeal r demands c.args.parents.now c.args.left.now c.args.cords.now c.args.nodes.now c.args.lows.now c.args.wants.now c.args.caps.now c.args.scale in
     let room : Accepted c.requires.room.room = accepted c.requires.room.table c.requires.room.room c.requires.room.end c.requires.room.is in
-    let lists : RoomOf c.requires.room.room c.requires.room.demands = c.requires.room.lists in
     let cords_s : ℕ = length c.args.nodes.now in
-    let cords_few : cords_s ≤ most_cords = omega (arith, (levels_cords room lists).few, cord-count room lists) in
+    let cords_few : cords_s ≤ most_cords = omega (arith, (levels_cords room c.requires.room.lists).few, cord-count room c.requires.room.lists) in
     let starts_back : List ℕ = c.reclaim-freed.new.starts in
     let starts_lent : Lent cords_s (replicate most_cords 0) starts_back = lent-zeros most_cords cords_few c.reclaim-freed.auto.starts in
     lent-front starts_lent
@@ -409,135 +333,96 @@ pub deal-requires-2 : goal.deal-requires-2
 deal-requires-2 c =
     let RoomOf : Room → List ℕ → Type 0 = λ r demands. RoomToDeal r demands c.args.parents.now c.args.left.now c.args.cords.now c.args.nodes.now c.args.lows.now c.args.wants.now c.args.caps.now c.args.scale in
     let room : Accepted c.requires.room.room = accepted c.requires.room.table c.requires.room.room c.requires.room.end c.requires.room.is in
-    let lists : RoomOf c.requires.room.room c.requires.room.demands = c.requires.room.lists in
     let nodes_s : ℕ = length c.args.parents.now in
     let cords_s : ℕ = length c.args.nodes.now in
     let servers_s : ℕ = length c.args.caps.now in
-    let nodes_few : nodes_s ≤ most_nodes = (levels_nodes room lists).0 in
-    let cords_few : cords_s ≤ most_cords = omega (arith, (levels_cords room lists).few, cord-count room lists) in
-    let servers_few : servers_s ≤ most_servers = omega (arith, needs_size room lists, room.few_servers) in
-    let first_left_back : List ℕ = c.copy.new.to in
-    let first_left_lent : Lent nodes_s (replicate most_nodes 0) first_left_back = lent-zeros most_nodes nodes_few c.copy.auto.to in
-    let needs-back : List ℕ = c.copy-2.new.to in
-    let needs-lent : Lent servers_s (replicate most_servers 0) needs-back = lent-zeros most_servers servers_few c.copy-2.auto.to in
-    let levels_back : List (List ℕ) = c.list_levels.new.levels in
-    let order_back : List ℕ = c.list_levels.new.order in
-    let order_lent : Lent cords_s (replicate most_cords 0) order_back = lent-zeros most_cords cords_few c.list_levels.auto.order in
-    let actives_back : List (List ℕ) = c.list_levels.new.actives in
-    let grants_f : List ℕ = c.deal.new.grants in
-    let grants_size : length grants_f ≡ cords_s = c.deal.auto.grants ∙ c.requires.blank.1 in
-    let needs-after : List ℕ = rejoined servers_s (replicate most_servers 0) needs-back in
-    let usable-back : List ℕ = c.usable_of.new.usable in
-    let usable-lent : Lent servers_s needs-after usable-back = lent (lent_few needs-lent) c.usable_of.auto.usable in
-    let starts_back : List ℕ = c.reclaim-freed.new.starts in
-    let starts_lent : Lent cords_s (replicate most_cords 0) starts_back = lent-zeros most_cords cords_few c.reclaim-freed.auto.starts in
-    let wants_back : List ℕ = c.reclaim-freed.new.wants in
-    let left_back : List ℕ = c.raise_starts.new.left in
-    let left_size : length left_back ≡ length c.args.left.now = c.raise_starts.auto.left in
-    let first_left_after : List ℕ = rejoined nodes_s (replicate most_nodes 0) first_left_back in
-    let first_left_is : take nodes_s first_left_after ≡ c.args.left.now = lent_again first_left_lent ∙ c.copy.ensures.copied ∙ sets_all _ _ (zeros-front most_nodes _ nodes_few ∙ sym lists.lists.spare_size) in
+    let nodes_few : nodes_s ≤ most_nodes = (levels_nodes room c.requires.room.lists).0 in
+    let cords_few : cords_s ≤ most_cords = omega (arith, (levels_cords room c.requires.room.lists).few, cord-count room c.requires.room.lists) in
+    let servers_few : servers_s ≤ most_servers = omega (arith, needs_size room c.requires.room.lists, room.few_servers) in
+    let first_left_lent : Lent nodes_s (replicate most_nodes 0) c.copy.new.to = lent-zeros most_nodes nodes_few c.copy.auto.to in
+    let needs-lent : Lent servers_s (replicate most_servers 0) c.copy-2.new.to = lent-zeros most_servers servers_few c.copy-2.auto.to in
+    let order_lent : Lent cords_s (replicate most_cords 0) c.list_levels.new.order = lent-zeros most_cords cords_few c.list_levels.auto.order in
+    let grants_size : length c.deal.new.grants ≡ cords_s = c.deal.auto.grants ∙ c.requires.blank.1 in
+    let needs-after : List ℕ = rejoined servers_s (replicate most_servers 0) c.copy-2.new.to in
+    let usable-lent : Lent servers_s needs-after c.usable_of.new.usable = lent (lent_few needs-lent) c.usable_of.auto.usable in
+    let starts_lent : Lent cords_s (replicate most_cords 0) c.reclaim-freed.new.starts = lent-zeros most_cords cords_few c.reclaim-freed.auto.starts in
+    let first_left_after : List ℕ = rejoined nodes_s (replicate most_nodes 0) c.copy.new.to in
+    let first_left_is : take nodes_s first_left_after ≡ c.args.left.now = lent_again first_left_lent ∙ c.copy.ensures.copied ∙ sets_all _ _ (zeros-front most_nodes _ nodes_few ∙ sym c.requires.room.lists.lists.spare_size) in
     let needs_are : take servers_s needs-after ≡ c.args.caps.now = lent_again needs-lent ∙ c.copy-2.ensures.copied ∙ sets_all _ _ (zeros-front most_servers _ servers_few) in
-    let order_after : List ℕ = rejoined cords_s (replicate most_cords 0) order_back in
-    let listed_at : LevelLists c.args.parents.now (column node_column c.args.cords.now) (column level_column c.args.cords.now) levels_back (take cords_s order_after) actives_back = rw (lent_again order_lent) c.list_levels.ensures.listed in
-    let first_lent : (r : Room) → Accepted r → (demands : List ℕ) → RoomOf r demands → DealGiven c.args.parents.now levels_back (take cords_s order_after) actives_back c.args.nodes.now c.args.lows.now c.args.wants.now (take nodes_s first_left_after) (limits_of r) (levels_of r) c.args.lows.now = λ r ok demands of. first_given ok of listed_at first_left_is in
-    let first-grants : (r : Room) → Accepted r → (demands : List ℕ) → RoomOf r demands → grants_f ≡ first_grants r demands = λ r ok demands of. first_made ok of (c.deal.ensures.dealt (limits_of r) (levels_of r) c.args.lows.now (first_lent _ ok _ of)) in
-    let usable_after : List ℕ = rejoined servers_s needs-after usable-back in
-    let usable_is : take servers_s usable_after ≡ usable_from c.args.scale (column share_column c.args.cords.now) (column server_column c.args.cords.now) c.args.caps.now grants_f = lent_again usable-lent
+    let order_after : List ℕ = rejoined cords_s (replicate most_cords 0) c.list_levels.new.order in
+    let listed_at : LevelLists c.args.parents.now (column node_column c.args.cords.now) (column level_column c.args.cords.now) c.list_levels.new.levels (take cords_s order_after) c.list_levels.new.actives = rw (lent_again order_lent) c.list_levels.ensures.listed in
+    let first_lent : (r : Room) → Accepted r → (demands : List ℕ) → RoomOf r demands → DealGiven c.args.parents.now c.list_levels.new.levels (take cords_s order_after) c.list_levels.new.actives c.args.nodes.now c.args.lows.now c.args.wants.now (take nodes_s first_left_after) (limits_of r) (levels_of r) c.args.lows.now = λ r ok demands of. first_given ok of listed_at first_left_is in
+    let first-grants : (r : Room) → Accepted r → (demands : List ℕ) → RoomOf r demands → c.deal.new.grants ≡ first_grants r demands = λ r ok demands of. first_made ok of (c.deal.ensures.dealt (limits_of r) (levels_of r) c.args.lows.now (first_lent _ ok _ of)) in
+    let usable_after : List ℕ = rejoined servers_s needs-after c.usable_of.new.usable in
+    let usable_is : take servers_s usable_after ≡ usable_from c.args.scale (column share_column c.args.cords.now) (column server_column c.args.cords.now) c.args.caps.now c.deal.new.grants = lent_again usable-lent
     ∙ c.usable_of.ensures.usable
-    ∙ ap (λ (needed : List ℕ). usable_from c.args.scale (column share_column c.args.cords.now) (column server_column c.args.cords.now) needed grants_f) needs_are in
-    let starts_after : List ℕ = rejoined cords_s (replicate most_cords 0) starts_back in
-    let first_q : (r : Room) → Accepted r → (demands : List ℕ) → RoomOf r demands → grants_f ≡ first_grants r demands = λ r ok demands of. first-grants _ ok _ of in
+    ∙ ap (λ (needed : List ℕ). usable_from c.args.scale (column share_column c.args.cords.now) (column server_column c.args.cords.now) needed c.deal.new.grants) needs_are in
+    let starts_after : List ℕ = rejoined cords_s (replicate most_cords 0) c.reclaim-freed.new.starts in
+    let first_q : (r : Room) → Accepted r → (demands : List ℕ) → RoomOf r demands → c.deal.new.grants ≡ first_grants r demands = λ r ok demands of. first-grants _ ok _ of in
     let starts_are : (r : Room) → Accepted r → (demands : List ℕ) → RoomOf r demands → take cords_s starts_after ≡ first_used r demands = λ r ok demands of. lent_again starts_lent ∙ first-used ok of (first_q _ ok _ of) usable_is c.reclaim-freed.ensures.starts in
-    let wants_are : (r : Room) → Accepted r → (demands : List ℕ) → RoomOf r demands → wants_back ≡ second_wants r demands = λ r ok demands of. second-wants ok of (first_q _ ok _ of) usable_is c.reclaim-freed.ensures.wants in
-    let second_lent : (r : Room) → Accepted r → (demands : List ℕ) → RoomOf r demands → DealGiven c.args.parents.now levels_back (take cords_s order_after) actives_back c.args.nodes.now (take cords_s starts_after) wants_back left_back (limits_of r) (levels_of r) c.args.lows.now = λ r ok demands of. second_given ok of listed_at (starts_are _ ok _ of) (wants_are _ ok _ of)
-    (raised ok of (starts_are _ ok _ of) left_size c.raise_starts.ensures.raised) in
-    record { lists = (record { limits = limits_of c.requires.room.room; levels = levels_of c.requires.room.room; lows = c.args.lows.now; given = second_lent _ room _ lists }, c.requires.blank.0, grants_size) }
+    let wants_are : (r : Room) → Accepted r → (demands : List ℕ) → RoomOf r demands → c.reclaim-freed.new.wants ≡ second_wants r demands = λ r ok demands of. second-wants ok of (first_q _ ok _ of) usable_is c.reclaim-freed.ensures.wants in
+    let second_lent : (r : Room) → Accepted r → (demands : List ℕ) → RoomOf r demands → DealGiven c.args.parents.now c.list_levels.new.levels (take cords_s order_after) c.list_levels.new.actives c.args.nodes.now (take cords_s starts_after) c.reclaim-freed.new.wants c.raise_starts.new.left (limits_of r) (levels_of r) c.args.lows.now = λ r ok demands of. second_given ok of listed_at (starts_are _ ok _ of) (wants_are _ ok _ of)
+    (raised ok of (starts_are _ ok _ of) c.raise_starts.auto.left c.raise_starts.ensures.raised) in
+    record { lists = (record { limits = limits_of c.requires.room.room; levels = levels_of c.requires.room.room; lows = c.args.lows.now; given = second_lent _ room _ c.requires.room.lists }, c.requires.blank.0, grants_size) }
 
 pub usable_of-requires-2 : goal.usable_of-requires-2
 usable_of-requires-2 c =
-    let RoomOf : Room → List ℕ → Type 0 = λ r demands. RoomToDeal r demands c.args.parents.now c.args.left.now c.args.cords.now c.args.nodes.now c.args.lows.now c.args.wants.now c.args.caps.now c.args.scale in
     let room : Accepted c.requires.room.room = accepted c.requires.room.table c.requires.room.room c.requires.room.end c.requires.room.is in
-    let lists : RoomOf c.requires.room.room c.requires.room.demands = c.requires.room.lists in
     let cords_s : ℕ = length c.args.nodes.now in
-    let grants_f : List ℕ = c.deal.new.grants in
-    let grants_size : length grants_f ≡ cords_s = c.deal.auto.grants ∙ c.requires.blank.1 in
-    let grants_d : List ℕ = c.deal-2.new.grants in
-    let grants_size_d : length grants_d ≡ cords_s = c.deal-2.auto.grants ∙ grants_size in
-    record { lists = server-lists room lists grants_size_d }
+    let grants_size : length c.deal.new.grants ≡ cords_s = c.deal.auto.grants ∙ c.requires.blank.1 in
+    let grants_size_d : length c.deal-2.new.grants ≡ cords_s = c.deal-2.auto.grants ∙ grants_size in
+    record { lists = server-lists room c.requires.room.lists grants_size_d }
 
 pub shape_of-wants : goal.shape_of-wants
-shape_of-wants c =
-    let wants_back : List ℕ = c.reclaim-freed.new.wants in
-    let wants_size : length wants_back ≡ length c.args.wants.now = c.reclaim-freed.auto.wants in
-    wants_size
+shape_of-wants c = c.reclaim-freed.auto.wants
 
 pub shape_of-left : goal.shape_of-left
 shape_of-left c =
-    let left_back : List ℕ = c.raise_starts.new.left in
-    let left_size : length left_back ≡ length c.args.left.now = c.raise_starts.auto.left in
-    let left_d : List ℕ = c.deal-2.new.left in
-    let left_size_d : length left_d ≡ length c.args.left.now = c.deal-2.auto.left ∙ left_size in
+    let left_size_d : length c.deal-2.new.left ≡ length c.args.left.now = c.deal-2.auto.left ∙ c.raise_starts.auto.left in
     left_size_d
 
 pub shape_of-grants : goal.shape_of-grants
 shape_of-grants c =
     let cords_s : ℕ = length c.args.nodes.now in
-    let grants_f : List ℕ = c.deal.new.grants in
-    let grants_size : length grants_f ≡ cords_s = c.deal.auto.grants ∙ c.requires.blank.1 in
-    let grants_d : List ℕ = c.deal-2.new.grants in
-    let grants_size_d : length grants_d ≡ cords_s = c.deal-2.auto.grants ∙ grants_size in
+    let grants_size : length c.deal.new.grants ≡ cords_s = c.deal.auto.grants ∙ c.requires.blank.1 in
+    let grants_size_d : length c.deal-2.new.grants ≡ cords_s = c.deal-2.auto.grants ∙ grants_size in
     grants_size_d ∙ sym c.requires.blank.1
 
 pub returns : goal.returns
 returns c =
     let RoomOf : Room → List ℕ → Type 0 = λ r demands. RoomToDeal r demands c.args.parents.now c.args.left.now c.args.cords.now c.args.nodes.now c.args.lows.now c.args.wants.now c.args.caps.now c.args.scale in
     let room : Accepted c.requires.room.room = accepted c.requires.room.table c.requires.room.room c.requires.room.end c.requires.room.is in
-    let lists : RoomOf c.requires.room.room c.requires.room.demands = c.requires.room.lists in
     let nodes_s : ℕ = length c.args.parents.now in
     let cords_s : ℕ = length c.args.nodes.now in
     let servers_s : ℕ = length c.args.caps.now in
-    let nodes_few : nodes_s ≤ most_nodes = (levels_nodes room lists).0 in
-    let cords_few : cords_s ≤ most_cords = omega (arith, (levels_cords room lists).few, cord-count room lists) in
-    let servers_few : servers_s ≤ most_servers = omega (arith, needs_size room lists, room.few_servers) in
-    let first_left_back : List ℕ = c.copy.new.to in
-    let first_left_lent : Lent nodes_s (replicate most_nodes 0) first_left_back = lent-zeros most_nodes nodes_few c.copy.auto.to in
-    let needs-back : List ℕ = c.copy-2.new.to in
-    let needs-lent : Lent servers_s (replicate most_servers 0) needs-back = lent-zeros most_servers servers_few c.copy-2.auto.to in
-    let levels_back : List (List ℕ) = c.list_levels.new.levels in
-    let order_back : List ℕ = c.list_levels.new.order in
-    let order_lent : Lent cords_s (replicate most_cords 0) order_back = lent-zeros most_cords cords_few c.list_levels.auto.order in
-    let actives_back : List (List ℕ) = c.list_levels.new.actives in
-    let grants_f : List ℕ = c.deal.new.grants in
-    let needs-after : List ℕ = rejoined servers_s (replicate most_servers 0) needs-back in
-    let usable-back : List ℕ = c.usable_of.new.usable in
-    let usable-lent : Lent servers_s needs-after usable-back = lent (lent_few needs-lent) c.usable_of.auto.usable in
-    let starts_back : List ℕ = c.reclaim-freed.new.starts in
-    let starts_lent : Lent cords_s (replicate most_cords 0) starts_back = lent-zeros most_cords cords_few c.reclaim-freed.auto.starts in
-    let wants_back : List ℕ = c.reclaim-freed.new.wants in
-    let left_back : List ℕ = c.raise_starts.new.left in
-    let left_size : length left_back ≡ length c.args.left.now = c.raise_starts.auto.left in
-    let left_d : List ℕ = c.deal-2.new.left in
-    let cuts_d : List ℕ = c.deal-2.new.cuts in
-    let grants_d : List ℕ = c.deal-2.new.grants in
-    let first_left_after : List ℕ = rejoined nodes_s (replicate most_nodes 0) first_left_back in
-    let first_left_is : take nodes_s first_left_after ≡ c.args.left.now = lent_again first_left_lent ∙ c.copy.ensures.copied ∙ sets_all _ _ (zeros-front most_nodes _ nodes_few ∙ sym lists.lists.spare_size) in
+    let nodes_few : nodes_s ≤ most_nodes = (levels_nodes room c.requires.room.lists).0 in
+    let cords_few : cords_s ≤ most_cords = omega (arith, (levels_cords room c.requires.room.lists).few, cord-count room c.requires.room.lists) in
+    let servers_few : servers_s ≤ most_servers = omega (arith, needs_size room c.requires.room.lists, room.few_servers) in
+    let first_left_lent : Lent nodes_s (replicate most_nodes 0) c.copy.new.to = lent-zeros most_nodes nodes_few c.copy.auto.to in
+    let needs-lent : Lent servers_s (replicate most_servers 0) c.copy-2.new.to = lent-zeros most_servers servers_few c.copy-2.auto.to in
+    let order_lent : Lent cords_s (replicate most_cords 0) c.list_levels.new.order = lent-zeros most_cords cords_few c.list_levels.auto.order in
+    let needs-after : List ℕ = rejoined servers_s (replicate most_servers 0) c.copy-2.new.to in
+    let usable-lent : Lent servers_s needs-after c.usable_of.new.usable = lent (lent_few needs-lent) c.usable_of.auto.usable in
+    let starts_lent : Lent cords_s (replicate most_cords 0) c.reclaim-freed.new.starts = lent-zeros most_cords cords_few c.reclaim-freed.auto.starts in
+    let first_left_after : List ℕ = rejoined nodes_s (replicate most_nodes 0) c.copy.new.to in
+    let first_left_is : take nodes_s first_left_after ≡ c.args.left.now = lent_again first_left_lent ∙ c.copy.ensures.copied ∙ sets_all _ _ (zeros-front most_nodes _ nodes_few ∙ sym c.requires.room.lists.lists.spare_size) in
     let needs_are : take servers_s needs-after ≡ c.args.caps.now = lent_again needs-lent ∙ c.copy-2.ensures.copied ∙ sets_all _ _ (zeros-front most_servers _ servers_few) in
-    let order_after : List ℕ = rejoined cords_s (replicate most_cords 0) order_back in
-    let listed_at : LevelLists c.args.parents.now (column node_column c.args.cords.now) (column level_column c.args.cords.now) levels_back (take cords_s order_after) actives_back = rw (lent_again order_lent) c.list_levels.ensures.listed in
-    let first_lent : (r : Room) → Accepted r → (demands : List ℕ) → RoomOf r demands → DealGiven c.args.parents.now levels_back (take cords_s order_after) actives_back c.args.nodes.now c.args.lows.now c.args.wants.now (take nodes_s first_left_after) (limits_of r) (levels_of r) c.args.lows.now = λ r ok demands of. first_given ok of listed_at first_left_is in
-    let first-grants : (r : Room) → Accepted r → (demands : List ℕ) → RoomOf r demands → grants_f ≡ first_grants r demands = λ r ok demands of. first_made ok of (c.deal.ensures.dealt (limits_of r) (levels_of r) c.args.lows.now (first_lent _ ok _ of)) in
-    let usable_after : List ℕ = rejoined servers_s needs-after usable-back in
-    let usable_is : take servers_s usable_after ≡ usable_from c.args.scale (column share_column c.args.cords.now) (column server_column c.args.cords.now) c.args.caps.now grants_f = lent_again usable-lent
+    let order_after : List ℕ = rejoined cords_s (replicate most_cords 0) c.list_levels.new.order in
+    let listed_at : LevelLists c.args.parents.now (column node_column c.args.cords.now) (column level_column c.args.cords.now) c.list_levels.new.levels (take cords_s order_after) c.list_levels.new.actives = rw (lent_again order_lent) c.list_levels.ensures.listed in
+    let first_lent : (r : Room) → Accepted r → (demands : List ℕ) → RoomOf r demands → DealGiven c.args.parents.now c.list_levels.new.levels (take cords_s order_after) c.list_levels.new.actives c.args.nodes.now c.args.lows.now c.args.wants.now (take nodes_s first_left_after) (limits_of r) (levels_of r) c.args.lows.now = λ r ok demands of. first_given ok of listed_at first_left_is in
+    let first-grants : (r : Room) → Accepted r → (demands : List ℕ) → RoomOf r demands → c.deal.new.grants ≡ first_grants r demands = λ r ok demands of. first_made ok of (c.deal.ensures.dealt (limits_of r) (levels_of r) c.args.lows.now (first_lent _ ok _ of)) in
+    let usable_after : List ℕ = rejoined servers_s needs-after c.usable_of.new.usable in
+    let usable_is : take servers_s usable_after ≡ usable_from c.args.scale (column share_column c.args.cords.now) (column server_column c.args.cords.now) c.args.caps.now c.deal.new.grants = lent_again usable-lent
     ∙ c.usable_of.ensures.usable
-    ∙ ap (λ (needed : List ℕ). usable_from c.args.scale (column share_column c.args.cords.now) (column server_column c.args.cords.now) needed grants_f) needs_are in
-    let starts_after : List ℕ = rejoined cords_s (replicate most_cords 0) starts_back in
-    let first_q : (r : Room) → Accepted r → (demands : List ℕ) → RoomOf r demands → grants_f ≡ first_grants r demands = λ r ok demands of. first-grants _ ok _ of in
+    ∙ ap (λ (needed : List ℕ). usable_from c.args.scale (column share_column c.args.cords.now) (column server_column c.args.cords.now) needed c.deal.new.grants) needs_are in
+    let starts_after : List ℕ = rejoined cords_s (replicate most_cords 0) c.reclaim-freed.new.starts in
+    let first_q : (r : Room) → Accepted r → (demands : List ℕ) → RoomOf r demands → c.deal.new.grants ≡ first_grants r demands = λ r ok demands of. first-grants _ ok _ of in
     let starts_are : (r : Room) → Accepted r → (demands : List ℕ) → RoomOf r demands → take cords_s starts_after ≡ first_used r demands = λ r ok demands of. lent_again starts_lent ∙ first-used ok of (first_q _ ok _ of) usable_is c.reclaim-freed.ensures.starts in
-    let wants_are : (r : Room) → Accepted r → (demands : List ℕ) → RoomOf r demands → wants_back ≡ second_wants r demands = λ r ok demands of. second-wants ok of (first_q _ ok _ of) usable_is c.reclaim-freed.ensures.wants in
+    let wants_are : (r : Room) → Accepted r → (demands : List ℕ) → RoomOf r demands → c.reclaim-freed.new.wants ≡ second_wants r demands = λ r ok demands of. second-wants ok of (first_q _ ok _ of) usable_is c.reclaim-freed.ensures.wants in
     let freed_q : (r : Room) → Accepted r → (demands : List ℕ) → RoomOf r demands → c.reclaim-freed.result ≡ second.freed r demands = λ r ok demands of. freed_is ok of (first_q _ ok _ of) usable_is c.reclaim-freed.ensures.freed in
-    let second_lent : (r : Room) → Accepted r → (demands : List ℕ) → RoomOf r demands → DealGiven c.args.parents.now levels_back (take cords_s order_after) actives_back c.args.nodes.now (take cords_s starts_after) wants_back left_back (limits_of r) (levels_of r) c.args.lows.now = λ r ok demands of. second_given ok of listed_at (starts_are _ ok _ of) (wants_are _ ok _ of)
-    (raised ok of (starts_are _ ok _ of) left_size c.raise_starts.ensures.raised) in
-    let second-deal : (r : Room) → Accepted r → (demands : List ℕ) → RoomOf r demands → DealMade (second_deal r demands) left_d cuts_d grants_d = λ r ok demands of. second_made ok of (starts_are _ ok _ of) (wants_are _ ok _ of)
+    let second_lent : (r : Room) → Accepted r → (demands : List ℕ) → RoomOf r demands → DealGiven c.args.parents.now c.list_levels.new.levels (take cords_s order_after) c.list_levels.new.actives c.args.nodes.now (take cords_s starts_after) c.reclaim-freed.new.wants c.raise_starts.new.left (limits_of r) (levels_of r) c.args.lows.now = λ r ok demands of. second_given ok of listed_at (starts_are _ ok _ of) (wants_are _ ok _ of)
+    (raised ok of (starts_are _ ok _ of) c.raise_starts.auto.left c.raise_starts.ensures.raised) in
+    let second-deal : (r : Room) → Accepted r → (demands : List ℕ) → RoomOf r demands → DealMade (second_deal r demands) c.deal-2.new.left c.deal-2.new.cuts c.deal-2.new.grants = λ r ok demands of. second_made ok of (starts_are _ ok _ of) (wants_are _ ok _ of)
     (c.deal-2.ensures.dealt (limits_of r) (levels_of r) c.args.lows.now (second_lent _ ok _ of)) in
     record {
       dealt =

@@ -30,122 +30,59 @@ blank-long : {n most : ℕ} → n ≤ most → n ≤ length {A = ℕ} (replicate
 blank-long {most = most} few = omega (arith, equal_length {A = ℕ} most 0)
 
 pub slice_bounds-list_nodes-end : goal.slice_bounds-list_nodes-end
-slice_bounds-list_nodes-end c =
-    let GivenAt : (table demands : List ℕ) → Room → Type 0 = λ table demands r. PlanGiven table demands r c.args.counts c.args.parents.now c.args.left.now c.args.cords.now c.args.lows.now c.args.wants.now
-    c.args.headroom.now c.args.caps.now in
-    let some : GivenAt c.requires.room.table c.requires.room.demands c.requires.room.room = c.requires.room.given in
-    front_length _ _ (cords_long some)
+slice_bounds-list_nodes-end c = front_length _ _ (cords_long c.requires.room.given)
 
 pub slice_bounds-nodes-end : goal.slice_bounds-nodes-end
-slice_bounds-nodes-end c =
-    let GivenAt : (table demands : List ℕ) → Room → Type 0 = λ table demands r. PlanGiven table demands r c.args.counts c.args.parents.now c.args.left.now c.args.cords.now c.args.lows.now c.args.wants.now
-    c.args.headroom.now c.args.caps.now in
-    let some : GivenAt c.requires.room.table c.requires.room.demands c.requires.room.room = c.requires.room.given in
-    blank-long (cords_few some)
+slice_bounds-nodes-end c = blank-long (cords_few c.requires.room.given)
 
 pub slice_bounds-list_nodes-end-2 : goal.slice_bounds-list_nodes-end-2
-slice_bounds-list_nodes-end-2 c =
-    let GivenAt : (table demands : List ℕ) → Room → Type 0 = λ table demands r. PlanGiven table demands r c.args.counts c.args.parents.now c.args.left.now c.args.cords.now c.args.lows.now c.args.wants.now
-    c.args.headroom.now c.args.caps.now in
-    let some : GivenAt c.requires.room.table c.requires.room.demands c.requires.room.room = c.requires.room.given in
-    sym (zeros-front most_cords _ (cords_few some))
+slice_bounds-list_nodes-end-2 c = sym (zeros-front most_cords _ (cords_few c.requires.room.given))
 
 pub list_nodes-requires : goal.list_nodes-requires
 list_nodes-requires c =
-    let GivenAt : (table demands : List ℕ) → Room → Type 0 = λ table demands r. PlanGiven table demands r c.args.counts c.args.parents.now c.args.left.now c.args.cords.now c.args.lows.now c.args.wants.now
-    c.args.headroom.now c.args.caps.now in
-    let some : GivenAt c.requires.room.table c.requires.room.demands c.requires.room.room = c.requires.room.given in
-    record { size = zeros-front most_cords _ (cords_few some) ∙ front_length _ _ (cords_long some) }
+    record { size = zeros-front most_cords _ (cords_few c.requires.room.given) ∙ front_length _ _ (cords_long c.requires.room.given) }
 
 pub slice_bounds-deal_twice-end : goal.slice_bounds-deal_twice-end
-slice_bounds-deal_twice-end c =
-    let GivenAt : (table demands : List ℕ) → Room → Type 0 = λ table demands r. PlanGiven table demands r c.args.counts c.args.parents.now c.args.left.now c.args.cords.now c.args.lows.now c.args.wants.now
-    c.args.headroom.now c.args.caps.now in
-    let some : GivenAt c.requires.room.table c.requires.room.demands c.requires.room.room = c.requires.room.given in
-    front_length _ _ (parents_long some)
+slice_bounds-deal_twice-end c = front_length _ _ (parents_long c.requires.room.given)
 
 pub slice_bounds-deal_twice-end-2 : goal.slice_bounds-deal_twice-end-2
-slice_bounds-deal_twice-end-2 c =
-    let GivenAt : (table demands : List ℕ) → Room → Type 0 = λ table demands r. PlanGiven table demands r c.args.counts c.args.parents.now c.args.left.now c.args.cords.now c.args.lows.now c.args.wants.now
-    c.args.headroom.now c.args.caps.now in
-    let some : GivenAt c.requires.room.table c.requires.room.demands c.requires.room.room = c.requires.room.given in
-    front_length _ _ (cords_long some)
+slice_bounds-deal_twice-end-2 c = front_length _ _ (cords_long c.requires.room.given)
 
 pub slice_bounds-nodes-end-2 : goal.slice_bounds-nodes-end-2
 slice_bounds-nodes-end-2 c =
-    let count-cords : ℕ = c.args.counts.cords in
-    let GivenAt : (table demands : List ℕ) → Room → Type 0 = λ table demands r. PlanGiven table demands r c.args.counts c.args.parents.now c.args.left.now c.args.cords.now c.args.lows.now c.args.wants.now
-    c.args.headroom.now c.args.caps.now in
-    let some : GivenAt c.requires.room.table c.requires.room.demands c.requires.room.room = c.requires.room.given in
     let nodes-back : List ℕ = c.list_nodes.new.nodes in
-    let nodes-lent : Lent count-cords (replicate most_cords 0) nodes-back = lent-zeros most_cords (cords_few some) c.list_nodes.auto.nodes in
+    let nodes-lent : Lent c.args.counts.cords (replicate most_cords 0) nodes-back = lent-zeros most_cords (cords_few c.requires.room.given) c.list_nodes.auto.nodes in
     lent_few nodes-lent
 
 pub slice_bounds-deal_twice-end-3 : goal.slice_bounds-deal_twice-end-3
 slice_bounds-deal_twice-end-3 c =
-    let count-cords : ℕ = c.args.counts.cords in
-    let GivenAt : (table demands : List ℕ) → Room → Type 0 = λ table demands r. PlanGiven table demands r c.args.counts c.args.parents.now c.args.left.now c.args.cords.now c.args.lows.now c.args.wants.now
-    c.args.headroom.now c.args.caps.now in
-    let some : GivenAt c.requires.room.table c.requires.room.demands c.requires.room.room = c.requires.room.given in
     let nodes-back : List ℕ = c.list_nodes.new.nodes in
-    let nodes-lent : Lent count-cords (replicate most_cords 0) nodes-back = lent-zeros most_cords (cords_few some) c.list_nodes.auto.nodes in
+    let nodes-lent : Lent c.args.counts.cords (replicate most_cords 0) nodes-back = lent-zeros most_cords (cords_few c.requires.room.given) c.list_nodes.auto.nodes in
     lent-front nodes-lent
 
 pub slice_bounds-deal_twice-end-4 : goal.slice_bounds-deal_twice-end-4
-slice_bounds-deal_twice-end-4 c =
-    let GivenAt : (table demands : List ℕ) → Room → Type 0 = λ table demands r. PlanGiven table demands r c.args.counts c.args.parents.now c.args.left.now c.args.cords.now c.args.lows.now c.args.wants.now
-    c.args.headroom.now c.args.caps.now in
-    let some : GivenAt c.requires.room.table c.requires.room.demands c.requires.room.room = c.requires.room.given in
-    lows_long some
+slice_bounds-deal_twice-end-4 c = lows_long c.requires.room.given
 
 pub slice_bounds-deal_twice-end-5 : goal.slice_bounds-deal_twice-end-5
-slice_bounds-deal_twice-end-5 c =
-    let GivenAt : (table demands : List ℕ) → Room → Type 0 = λ table demands r. PlanGiven table demands r c.args.counts c.args.parents.now c.args.left.now c.args.cords.now c.args.lows.now c.args.wants.now
-    c.args.headroom.now c.args.caps.now in
-    let some : GivenAt c.requires.room.table c.requires.room.demands c.requires.room.room = c.requires.room.given in
-    front_length _ _ (lows_long some)
+slice_bounds-deal_twice-end-5 c = front_length _ _ (lows_long c.requires.room.given)
 
 pub slice_bounds-deal_twice-end-6 : goal.slice_bounds-deal_twice-end-6
-slice_bounds-deal_twice-end-6 c =
-    let GivenAt : (table demands : List ℕ) → Room → Type 0 = λ table demands r. PlanGiven table demands r c.args.counts c.args.parents.now c.args.left.now c.args.cords.now c.args.lows.now c.args.wants.now
-    c.args.headroom.now c.args.caps.now in
-    let some : GivenAt c.requires.room.table c.requires.room.demands c.requires.room.room = c.requires.room.given in
-    wants_long some
+slice_bounds-deal_twice-end-6 c = wants_long c.requires.room.given
 
 pub slice_bounds-deal_twice-end-7 : goal.slice_bounds-deal_twice-end-7
-slice_bounds-deal_twice-end-7 c =
-    let GivenAt : (table demands : List ℕ) → Room → Type 0 = λ table demands r. PlanGiven table demands r c.args.counts c.args.parents.now c.args.left.now c.args.cords.now c.args.lows.now c.args.wants.now
-    c.args.headroom.now c.args.caps.now in
-    let some : GivenAt c.requires.room.table c.requires.room.demands c.requires.room.room = c.requires.room.given in
-    front_length _ _ (wants_long some)
+slice_bounds-deal_twice-end-7 c = front_length _ _ (wants_long c.requires.room.given)
 
 pub slice_bounds-deal_twice-end-8 : goal.slice_bounds-deal_twice-end-8
-slice_bounds-deal_twice-end-8 c =
-    let GivenAt : (table demands : List ℕ) → Room → Type 0 = λ table demands r. PlanGiven table demands r c.args.counts c.args.parents.now c.args.left.now c.args.cords.now c.args.lows.now c.args.wants.now
-    c.args.headroom.now c.args.caps.now in
-    let some : GivenAt c.requires.room.table c.requires.room.demands c.requires.room.room = c.requires.room.given in
-    spare_long some
+slice_bounds-deal_twice-end-8 c = spare_long c.requires.room.given
 
 pub slice_bounds-deal_twice-end-9 : goal.slice_bounds-deal_twice-end-9
-slice_bounds-deal_twice-end-9 c =
-    let GivenAt : (table demands : List ℕ) → Room → Type 0 = λ table demands r. PlanGiven table demands r c.args.counts c.args.parents.now c.args.left.now c.args.cords.now c.args.lows.now c.args.wants.now
-    c.args.headroom.now c.args.caps.now in
-    let some : GivenAt c.requires.room.table c.requires.room.demands c.requires.room.room = c.requires.room.given in
-    front_length _ _ (spare_long some)
+slice_bounds-deal_twice-end-9 c = front_length _ _ (spare_long c.requires.room.given)
 
 pub slice_bounds-cuts-end : goal.slice_bounds-cuts-end
-slice_bounds-cuts-end c =
-    let GivenAt : (table demands : List ℕ) → Room → Type 0 = λ table demands r. PlanGiven table demands r c.args.counts c.args.parents.now c.args.left.now c.args.cords.now c.args.lows.now c.args.wants.now
-    c.args.headroom.now c.args.caps.now in
-    let some : GivenAt c.requires.room.table c.requires.room.demands c.requires.room.room = c.requires.room.given in
-    blank-long (nodes_few some)
+slice_bounds-cuts-end c = blank-long (nodes_few c.requires.room.given)
 
 pub slice_bounds-deal_twice-end-10 : goal.slice_bounds-deal_twice-end-10
-slice_bounds-deal_twice-end-10 c =
-    let GivenAt : (table demands : List ℕ) → Room → Type 0 = λ table demands r. PlanGiven table demands r c.args.counts c.args.parents.now c.args.left.now c.args.cords.now c.args.lows.now c.args.wants.now
-    c.args.headroom.now c.args.caps.now in
-    let some : GivenAt c.requires.room.table c.requires.room.demands c.requires.room.room = c.requires.room.given in
-    sym (zeros-front most_nodes _ (nodes_few some))
+slice_bounds-deal_twice-end-10 c = sym (zeros-front most_nodes _ (nodes_few c.requires.room.given))
 
 pub slice_bounds-deal_twice-end-11 : goal.slice_bounds-deal_twice-end-11
 slice_bounds-deal_twice-end-11 c = c.requires.space.0
@@ -154,104 +91,64 @@ pub slice_bounds-deal_twice-end-12 : goal.slice_bounds-deal_twice-end-12
 slice_bounds-deal_twice-end-12 c = front_length _ _ c.requires.space.0
 
 pub slice_bounds-deal_twice-end-13 : goal.slice_bounds-deal_twice-end-13
-slice_bounds-deal_twice-end-13 c =
-    let GivenAt : (table demands : List ℕ) → Room → Type 0 = λ table demands r. PlanGiven table demands r c.args.counts c.args.parents.now c.args.left.now c.args.cords.now c.args.lows.now c.args.wants.now
-    c.args.headroom.now c.args.caps.now in
-    let some : GivenAt c.requires.room.table c.requires.room.demands c.requires.room.room = c.requires.room.given in
-    caps_long some
+slice_bounds-deal_twice-end-13 c = caps_long c.requires.room.given
 
 pub slice_bounds-deal_twice-end-14 : goal.slice_bounds-deal_twice-end-14
-slice_bounds-deal_twice-end-14 c =
-    let GivenAt : (table demands : List ℕ) → Room → Type 0 = λ table demands r. PlanGiven table demands r c.args.counts c.args.parents.now c.args.left.now c.args.cords.now c.args.lows.now c.args.wants.now
-    c.args.headroom.now c.args.caps.now in
-    let some : GivenAt c.requires.room.table c.requires.room.demands c.requires.room.room = c.requires.room.given in
-    front_length _ _ (caps_long some)
+slice_bounds-deal_twice-end-14 c = front_length _ _ (caps_long c.requires.room.given)
 
 pub deal_twice-freed-requires : goal.deal_twice-freed-requires
 deal_twice-freed-requires c =
-    let count-cords : ℕ = c.args.counts.cords in
-    let GivenAt : (table demands : List ℕ) → Room → Type 0 = λ table demands r. PlanGiven table demands r c.args.counts c.args.parents.now c.args.left.now c.args.cords.now c.args.lows.now c.args.wants.now
-    c.args.headroom.now c.args.caps.now in
-    let some : GivenAt c.requires.room.table c.requires.room.demands c.requires.room.room = c.requires.room.given in
-    let nodes-back : List ℕ = c.list_nodes.new.nodes in
-    let nodes-after : List ℕ = rejoined count-cords (replicate most_cords 0) nodes-back in
-    let nodes-lent : Lent count-cords (replicate most_cords 0) nodes-back = lent-zeros most_cords (cords_few some) c.list_nodes.auto.nodes in
-    let nodes_listed : take count-cords nodes-after ≡ column node_column (take count-cords c.args.cords.now) = lent_again nodes-lent ∙ c.list_nodes.ensures.listed in
-    let g = some in
+    let nodes-after : List ℕ = rejoined c.args.counts.cords (replicate most_cords 0) c.list_nodes.new.nodes in
+    let nodes-lent : Lent c.args.counts.cords (replicate most_cords 0) c.list_nodes.new.nodes = lent-zeros most_cords (cords_few c.requires.room.given) c.list_nodes.auto.nodes in
+    let nodes_listed : take c.args.counts.cords nodes-after ≡ column node_column (take c.args.counts.cords c.args.cords.now) = lent_again nodes-lent ∙ c.list_nodes.ensures.listed in
     record {
-      room = record { table = c.requires.room.table; demands = c.requires.room.demands; room = c.requires.room.room; end = g.end; is = g.is; lists = to_deal g nodes_listed };
+      room = record { table = c.requires.room.table; demands = c.requires.room.demands; room = c.requires.room.room; end = c.requires.room.given.end; is = c.requires.room.given.is; lists = to_deal c.requires.room.given nodes_listed };
       blank = (
-        blank_marks (nodes_few g) (front_length _ _ (parents_long g)),
+        blank_marks (nodes_few c.requires.room.given) (front_length _ _ (parents_long c.requires.room.given)),
         sym (front_length _ _ c.requires.space.0) ∙ lent-front nodes-lent,
       );
     }
 
 pub slice_bounds-name_holders-end : goal.slice_bounds-name_holders-end
-slice_bounds-name_holders-end c =
-    let GivenAt : (table demands : List ℕ) → Room → Type 0 = λ table demands r. PlanGiven table demands r c.args.counts c.args.parents.now c.args.left.now c.args.cords.now c.args.lows.now c.args.wants.now
-    c.args.headroom.now c.args.caps.now in
-    let some : GivenAt c.requires.room.table c.requires.room.demands c.requires.room.room = c.requires.room.given in
-    front_length _ _ (parents_long some)
+slice_bounds-name_holders-end c = front_length _ _ (parents_long c.requires.room.given)
 
 pub slice_bounds-cuts-end-2 : goal.slice_bounds-cuts-end-2
 slice_bounds-cuts-end-2 c =
-    let count-nodes : ℕ = c.args.counts.nodes in
-    let GivenAt : (table demands : List ℕ) → Room → Type 0 = λ table demands r. PlanGiven table demands r c.args.counts c.args.parents.now c.args.left.now c.args.cords.now c.args.lows.now c.args.wants.now
-    c.args.headroom.now c.args.caps.now in
-    let some : GivenAt c.requires.room.table c.requires.room.demands c.requires.room.room = c.requires.room.given in
     let cuts_back : List ℕ = c.deal_twice-freed.new.cuts in
-    let cuts_lent : Lent count-nodes (replicate most_nodes 0) cuts_back = lent-zeros most_nodes (nodes_few some) c.deal_twice-freed.auto.cuts in
+    let cuts_lent : Lent c.args.counts.nodes (replicate most_nodes 0) cuts_back = lent-zeros most_nodes (nodes_few c.requires.room.given) c.deal_twice-freed.auto.cuts in
     lent_few cuts_lent
 
 pub slice_bounds-name_holders-end-2 : goal.slice_bounds-name_holders-end-2
 slice_bounds-name_holders-end-2 c =
-    let count-nodes : ℕ = c.args.counts.nodes in
-    let GivenAt : (table demands : List ℕ) → Room → Type 0 = λ table demands r. PlanGiven table demands r c.args.counts c.args.parents.now c.args.left.now c.args.cords.now c.args.lows.now c.args.wants.now
-    c.args.headroom.now c.args.caps.now in
-    let some : GivenAt c.requires.room.table c.requires.room.demands c.requires.room.room = c.requires.room.given in
     let cuts_back : List ℕ = c.deal_twice-freed.new.cuts in
-    let cuts_lent : Lent count-nodes (replicate most_nodes 0) cuts_back = lent-zeros most_nodes (nodes_few some) c.deal_twice-freed.auto.cuts in
+    let cuts_lent : Lent c.args.counts.nodes (replicate most_nodes 0) cuts_back = lent-zeros most_nodes (nodes_few c.requires.room.given) c.deal_twice-freed.auto.cuts in
     lent-front cuts_lent
 
 pub slice_bounds-name_holders-end-3 : goal.slice_bounds-name_holders-end-3
-slice_bounds-name_holders-end-3 c =
-    let GivenAt : (table demands : List ℕ) → Room → Type 0 = λ table demands r. PlanGiven table demands r c.args.counts c.args.parents.now c.args.left.now c.args.cords.now c.args.lows.now c.args.wants.now
-    c.args.headroom.now c.args.caps.now in
-    let some : GivenAt c.requires.room.table c.requires.room.demands c.requires.room.room = c.requires.room.given in
-    front_length _ _ (cords_long some)
+slice_bounds-name_holders-end-3 c = front_length _ _ (cords_long c.requires.room.given)
 
 pub slice_bounds-name_holders-end-4 : goal.slice_bounds-name_holders-end-4
 slice_bounds-name_holders-end-4 c =
-    let count-cords : ℕ = c.args.counts.cords in
-    let GivenAt : (table demands : List ℕ) → Room → Type 0 = λ table demands r. PlanGiven table demands r c.args.counts c.args.parents.now c.args.left.now c.args.cords.now c.args.lows.now c.args.wants.now
-    c.args.headroom.now c.args.caps.now in
-    let some : GivenAt c.requires.room.table c.requires.room.demands c.requires.room.room = c.requires.room.given in
     let wants_back : List ℕ = c.deal_twice-freed.new.wants in
-    let wants_lent : Lent count-cords c.args.wants.now wants_back = lent (wants_long some) c.deal_twice-freed.auto.wants in
+    let wants_lent : Lent c.args.counts.cords c.args.wants.now wants_back = lent (wants_long c.requires.room.given) c.deal_twice-freed.auto.wants in
     lent_few wants_lent
 
 pub slice_bounds-name_holders-end-5 : goal.slice_bounds-name_holders-end-5
 slice_bounds-name_holders-end-5 c =
-    let count-cords : ℕ = c.args.counts.cords in
-    let GivenAt : (table demands : List ℕ) → Room → Type 0 = λ table demands r. PlanGiven table demands r c.args.counts c.args.parents.now c.args.left.now c.args.cords.now c.args.lows.now c.args.wants.now
-    c.args.headroom.now c.args.caps.now in
-    let some : GivenAt c.requires.room.table c.requires.room.demands c.requires.room.room = c.requires.room.given in
     let wants_back : List ℕ = c.deal_twice-freed.new.wants in
-    let wants_lent : Lent count-cords c.args.wants.now wants_back = lent (wants_long some) c.deal_twice-freed.auto.wants in
+    let wants_lent : Lent c.args.counts.cords c.args.wants.now wants_back = lent (wants_long c.requires.room.given) c.deal_twice-freed.auto.wants in
     lent-front wants_lent
 
 pub slice_bounds-name_holders-end-6 : goal.slice_bounds-name_holders-end-6
 slice_bounds-name_holders-end-6 c =
-    let count-cords : ℕ = c.args.counts.cords in
     let grants_back : List ℕ = c.deal_twice-freed.new.grants in
-    let grants_lent : Lent count-cords c.args.grants.now grants_back = lent c.requires.space.0 c.deal_twice-freed.auto.grants in
+    let grants_lent : Lent c.args.counts.cords c.args.grants.now grants_back = lent c.requires.space.0 c.deal_twice-freed.auto.grants in
     lent_few grants_lent
 
 pub slice_bounds-name_holders-end-7 : goal.slice_bounds-name_holders-end-7
 slice_bounds-name_holders-end-7 c =
-    let count-cords : ℕ = c.args.counts.cords in
     let grants_back : List ℕ = c.deal_twice-freed.new.grants in
-    let grants_lent : Lent count-cords c.args.grants.now grants_back = lent c.requires.space.0 c.deal_twice-freed.auto.grants in
+    let grants_lent : Lent c.args.counts.cords c.args.grants.now grants_back = lent c.requires.space.0 c.deal_twice-freed.auto.grants in
     lent-front grants_lent
 
 pub slice_bounds-name_holders-end-8 : goal.slice_bounds-name_holders-end-8
@@ -262,212 +159,134 @@ slice_bounds-name_holders-end-9 c = front_length _ _ c.requires.space.1
 
 pub name_holders-requires : goal.name_holders-requires
 name_holders-requires c =
-    let count-nodes : ℕ = c.args.counts.nodes in
-    let count-cords : ℕ = c.args.counts.cords in
-    let count-servers : ℕ = c.args.counts.servers in
     let GivenAt : (table demands : List ℕ) → Room → Type 0 = λ table demands r. PlanGiven table demands r c.args.counts c.args.parents.now c.args.left.now c.args.cords.now c.args.lows.now c.args.wants.now
     c.args.headroom.now c.args.caps.now in
-    let some : GivenAt c.requires.room.table c.requires.room.demands c.requires.room.room = c.requires.room.given in
-    let nodes-back : List ℕ = c.list_nodes.new.nodes in
-    let nodes-after : List ℕ = rejoined count-cords (replicate most_cords 0) nodes-back in
-    let nodes-lent : Lent count-cords (replicate most_cords 0) nodes-back = lent-zeros most_cords (cords_few some) c.list_nodes.auto.nodes in
-    let nodes_listed : take count-cords nodes-after ≡ column node_column (take count-cords c.args.cords.now) = lent_again nodes-lent ∙ c.list_nodes.ensures.listed in
-    let wants_back : List ℕ = c.deal_twice-freed.new.wants in
-    let wants-after : List ℕ = rejoined count-cords c.args.wants.now wants_back in
-    let wants_lent : Lent count-cords c.args.wants.now wants_back = lent (wants_long some) c.deal_twice-freed.auto.wants in
-    let left_back : List ℕ = c.deal_twice-freed.new.left in
-    let left_after : List ℕ = rejoined count-nodes c.args.left.now left_back in
-    let left_lent : Lent count-nodes c.args.left.now left_back = lent (spare_long some) c.deal_twice-freed.auto.left in
-    let grants_back : List ℕ = c.deal_twice-freed.new.grants in
-    let grants_after : List ℕ = rejoined count-cords c.args.grants.now grants_back in
-    let grants_lent : Lent count-cords c.args.grants.now grants_back = lent c.requires.space.0 c.deal_twice-freed.auto.grants in
-    let caps-back : List ℕ = c.deal_twice-freed.new.caps in
-    let caps-after : List ℕ = rejoined count-servers c.args.caps.now caps-back in
-    let caps-lent : Lent count-servers c.args.caps.now caps-back = lent (caps_long some) c.deal_twice-freed.auto.caps in
-    let cuts_back : List ℕ = c.deal_twice-freed.new.cuts in
-    let cuts_after : List ℕ = rejoined count-nodes (replicate most_nodes 0) cuts_back in
-    let cuts_lent : Lent count-nodes (replicate most_nodes 0) cuts_back = lent-zeros most_nodes (nodes_few some) c.deal_twice-freed.auto.cuts in
-    let lists_z : (table demands : List ℕ) (r : Room) → GivenAt table demands r → RoomToDeal r demands (take count-nodes c.args.parents.now) (take count-nodes c.args.left.now) (take count-cords c.args.cords.now) (take count-cords nodes-after) (take count-cords c.args.lows.now) (take count-cords c.args.wants.now) (take count-servers c.args.caps.now) c.args.counts.scale = λ table demands r g. to_deal g nodes_listed in
-    let dealt_z : (table demands : List ℕ) (r : Room) → GivenAt table demands r → DealtTwice r demands c.deal_twice-freed.result (take count-cords wants-after) (take count-nodes left_after) (take count-nodes cuts_after) (take count-cords grants_after) (take count-servers caps-after) = λ table demands r g. rw (lent_again wants_lent, lent_again left_lent, lent_again cuts_lent, lent_again grants_lent, lent_again caps-lent)
+    let nodes-after : List ℕ = rejoined c.args.counts.cords (replicate most_cords 0) c.list_nodes.new.nodes in
+    let nodes-lent : Lent c.args.counts.cords (replicate most_cords 0) c.list_nodes.new.nodes = lent-zeros most_cords (cords_few c.requires.room.given) c.list_nodes.auto.nodes in
+    let nodes_listed : take c.args.counts.cords nodes-after ≡ column node_column (take c.args.counts.cords c.args.cords.now) = lent_again nodes-lent ∙ c.list_nodes.ensures.listed in
+    let wants-after : List ℕ = rejoined c.args.counts.cords c.args.wants.now c.deal_twice-freed.new.wants in
+    let wants_lent : Lent c.args.counts.cords c.args.wants.now c.deal_twice-freed.new.wants = lent (wants_long c.requires.room.given) c.deal_twice-freed.auto.wants in
+    let left_after : List ℕ = rejoined c.args.counts.nodes c.args.left.now c.deal_twice-freed.new.left in
+    let left_lent : Lent c.args.counts.nodes c.args.left.now c.deal_twice-freed.new.left = lent (spare_long c.requires.room.given) c.deal_twice-freed.auto.left in
+    let grants_after : List ℕ = rejoined c.args.counts.cords c.args.grants.now c.deal_twice-freed.new.grants in
+    let grants_lent : Lent c.args.counts.cords c.args.grants.now c.deal_twice-freed.new.grants = lent c.requires.space.0 c.deal_twice-freed.auto.grants in
+    let caps-after : List ℕ = rejoined c.args.counts.servers c.args.caps.now c.deal_twice-freed.new.caps in
+    let caps-lent : Lent c.args.counts.servers c.args.caps.now c.deal_twice-freed.new.caps = lent (caps_long c.requires.room.given) c.deal_twice-freed.auto.caps in
+    let cuts_after : List ℕ = rejoined c.args.counts.nodes (replicate most_nodes 0) c.deal_twice-freed.new.cuts in
+    let cuts_lent : Lent c.args.counts.nodes (replicate most_nodes 0) c.deal_twice-freed.new.cuts = lent-zeros most_nodes (nodes_few c.requires.room.given) c.deal_twice-freed.auto.cuts in
+    let lists_z : (table demands : List ℕ) (r : Room) → GivenAt table demands r → RoomToDeal r demands (take c.args.counts.nodes c.args.parents.now) (take c.args.counts.nodes c.args.left.now) (take c.args.counts.cords c.args.cords.now) (take c.args.counts.cords nodes-after) (take c.args.counts.cords c.args.lows.now) (take c.args.counts.cords c.args.wants.now) (take c.args.counts.servers c.args.caps.now) c.args.counts.scale = λ table demands r g. to_deal g nodes_listed in
+    let dealt_z : (table demands : List ℕ) (r : Room) → GivenAt table demands r → DealtTwice r demands c.deal_twice-freed.result (take c.args.counts.cords wants-after) (take c.args.counts.nodes left_after) (take c.args.counts.nodes cuts_after) (take c.args.counts.cords grants_after) (take c.args.counts.servers caps-after) = λ table demands r g. rw (lent_again wants_lent, lent_again left_lent, lent_again cuts_lent, lent_again grants_lent, lent_again caps-lent)
     (c.deal_twice-freed.ensures.dealt table demands r g.end g.is (lists_z table demands r g)) in
-    let held_z : (table demands : List ℕ) (r : Room) → GivenAt table demands r → HeldLists (take count-nodes c.args.parents.now) (take count-nodes cuts_after) (take count-cords c.args.cords.now) (take count-cords wants-after) (take count-cords grants_after) = λ table demands r g. held-lists (given_ok g) (lists_z table demands r g) (dealt_z table demands r g) (sym (lent-front cuts_lent) ∙ front_length _ _ (parents_long g)) in
-    record { lists = (held_z _ _ _ some, sym (front_length _ _ c.requires.space.1) ∙ front_length _ _ (cords_long some)) }
+    let held_z : (table demands : List ℕ) (r : Room) → GivenAt table demands r → HeldLists (take c.args.counts.nodes c.args.parents.now) (take c.args.counts.nodes cuts_after) (take c.args.counts.cords c.args.cords.now) (take c.args.counts.cords wants-after) (take c.args.counts.cords grants_after) = λ table demands r g. held-lists (given_ok g) (lists_z table demands r g) (dealt_z table demands r g) (sym (lent-front cuts_lent) ∙ front_length _ _ (parents_long g)) in
+    record { lists = (held_z _ _ _ c.requires.room.given, sym (front_length _ _ c.requires.space.1) ∙ front_length _ _ (cords_long c.requires.room.given)) }
 
 pub slice_bounds-lend-end : goal.slice_bounds-lend-end
-slice_bounds-lend-end c =
-    let GivenAt : (table demands : List ℕ) → Room → Type 0 = λ table demands r. PlanGiven table demands r c.args.counts c.args.parents.now c.args.left.now c.args.cords.now c.args.lows.now c.args.wants.now
-    c.args.headroom.now c.args.caps.now in
-    let some : GivenAt c.requires.room.table c.requires.room.demands c.requires.room.room = c.requires.room.given in
-    front_length _ _ (parents_long some)
+slice_bounds-lend-end c = front_length _ _ (parents_long c.requires.room.given)
 
 pub slice_bounds-nodes-end-3 : goal.slice_bounds-nodes-end-3
 slice_bounds-nodes-end-3 c =
-    let count-cords : ℕ = c.args.counts.cords in
-    let GivenAt : (table demands : List ℕ) → Room → Type 0 = λ table demands r. PlanGiven table demands r c.args.counts c.args.parents.now c.args.left.now c.args.cords.now c.args.lows.now c.args.wants.now
-    c.args.headroom.now c.args.caps.now in
-    let some : GivenAt c.requires.room.table c.requires.room.demands c.requires.room.room = c.requires.room.given in
     let nodes-back : List ℕ = c.list_nodes.new.nodes in
-    let nodes-lent : Lent count-cords (replicate most_cords 0) nodes-back = lent-zeros most_cords (cords_few some) c.list_nodes.auto.nodes in
+    let nodes-lent : Lent c.args.counts.cords (replicate most_cords 0) nodes-back = lent-zeros most_cords (cords_few c.requires.room.given) c.list_nodes.auto.nodes in
     lent_few nodes-lent
 
 pub slice_bounds-lend-end-2 : goal.slice_bounds-lend-end-2
 slice_bounds-lend-end-2 c =
-    let count-cords : ℕ = c.args.counts.cords in
-    let GivenAt : (table demands : List ℕ) → Room → Type 0 = λ table demands r. PlanGiven table demands r c.args.counts c.args.parents.now c.args.left.now c.args.cords.now c.args.lows.now c.args.wants.now
-    c.args.headroom.now c.args.caps.now in
-    let some : GivenAt c.requires.room.table c.requires.room.demands c.requires.room.room = c.requires.room.given in
     let nodes-back : List ℕ = c.list_nodes.new.nodes in
-    let nodes-lent : Lent count-cords (replicate most_cords 0) nodes-back = lent-zeros most_cords (cords_few some) c.list_nodes.auto.nodes in
+    let nodes-lent : Lent c.args.counts.cords (replicate most_cords 0) nodes-back = lent-zeros most_cords (cords_few c.requires.room.given) c.list_nodes.auto.nodes in
     lent-front nodes-lent
 
 pub slice_bounds-lend-end-3 : goal.slice_bounds-lend-end-3
 slice_bounds-lend-end-3 c =
-    let count-cords : ℕ = c.args.counts.cords in
-    let GivenAt : (table demands : List ℕ) → Room → Type 0 = λ table demands r. PlanGiven table demands r c.args.counts c.args.parents.now c.args.left.now c.args.cords.now c.args.lows.now c.args.wants.now
-    c.args.headroom.now c.args.caps.now in
-    let some : GivenAt c.requires.room.table c.requires.room.demands c.requires.room.room = c.requires.room.given in
     let wants_back : List ℕ = c.deal_twice-freed.new.wants in
-    let wants_lent : Lent count-cords c.args.wants.now wants_back = lent (wants_long some) c.deal_twice-freed.auto.wants in
+    let wants_lent : Lent c.args.counts.cords c.args.wants.now wants_back = lent (wants_long c.requires.room.given) c.deal_twice-freed.auto.wants in
     lent_few wants_lent
 
 pub slice_bounds-lend-end-4 : goal.slice_bounds-lend-end-4
 slice_bounds-lend-end-4 c =
-    let count-cords : ℕ = c.args.counts.cords in
-    let GivenAt : (table demands : List ℕ) → Room → Type 0 = λ table demands r. PlanGiven table demands r c.args.counts c.args.parents.now c.args.left.now c.args.cords.now c.args.lows.now c.args.wants.now
-    c.args.headroom.now c.args.caps.now in
-    let some : GivenAt c.requires.room.table c.requires.room.demands c.requires.room.room = c.requires.room.given in
     let wants_back : List ℕ = c.deal_twice-freed.new.wants in
-    let wants_lent : Lent count-cords c.args.wants.now wants_back = lent (wants_long some) c.deal_twice-freed.auto.wants in
+    let wants_lent : Lent c.args.counts.cords c.args.wants.now wants_back = lent (wants_long c.requires.room.given) c.deal_twice-freed.auto.wants in
     lent-front wants_lent
 
 pub slice_bounds-lend-end-5 : goal.slice_bounds-lend-end-5
 slice_bounds-lend-end-5 c =
-    let count-nodes : ℕ = c.args.counts.nodes in
-    let GivenAt : (table demands : List ℕ) → Room → Type 0 = λ table demands r. PlanGiven table demands r c.args.counts c.args.parents.now c.args.left.now c.args.cords.now c.args.lows.now c.args.wants.now
-    c.args.headroom.now c.args.caps.now in
-    let some : GivenAt c.requires.room.table c.requires.room.demands c.requires.room.room = c.requires.room.given in
     let left_back : List ℕ = c.deal_twice-freed.new.left in
-    let left_lent : Lent count-nodes c.args.left.now left_back = lent (spare_long some) c.deal_twice-freed.auto.left in
+    let left_lent : Lent c.args.counts.nodes c.args.left.now left_back = lent (spare_long c.requires.room.given) c.deal_twice-freed.auto.left in
     lent_few left_lent
 
 pub slice_bounds-lend-end-6 : goal.slice_bounds-lend-end-6
 slice_bounds-lend-end-6 c =
-    let count-nodes : ℕ = c.args.counts.nodes in
-    let GivenAt : (table demands : List ℕ) → Room → Type 0 = λ table demands r. PlanGiven table demands r c.args.counts c.args.parents.now c.args.left.now c.args.cords.now c.args.lows.now c.args.wants.now
-    c.args.headroom.now c.args.caps.now in
-    let some : GivenAt c.requires.room.table c.requires.room.demands c.requires.room.room = c.requires.room.given in
     let left_back : List ℕ = c.deal_twice-freed.new.left in
-    let left_lent : Lent count-nodes c.args.left.now left_back = lent (spare_long some) c.deal_twice-freed.auto.left in
+    let left_lent : Lent c.args.counts.nodes c.args.left.now left_back = lent (spare_long c.requires.room.given) c.deal_twice-freed.auto.left in
     lent-front left_lent
 
 pub slice_bounds-lend-end-7 : goal.slice_bounds-lend-end-7
-slice_bounds-lend-end-7 c =
-    let GivenAt : (table demands : List ℕ) → Room → Type 0 = λ table demands r. PlanGiven table demands r c.args.counts c.args.parents.now c.args.left.now c.args.cords.now c.args.lows.now c.args.wants.now
-    c.args.headroom.now c.args.caps.now in
-    let some : GivenAt c.requires.room.table c.requires.room.demands c.requires.room.room = c.requires.room.given in
-    lows_long some
+slice_bounds-lend-end-7 c = lows_long c.requires.room.given
 
 pub slice_bounds-lend-end-8 : goal.slice_bounds-lend-end-8
-slice_bounds-lend-end-8 c =
-    let GivenAt : (table demands : List ℕ) → Room → Type 0 = λ table demands r. PlanGiven table demands r c.args.counts c.args.parents.now c.args.left.now c.args.cords.now c.args.lows.now c.args.wants.now
-    c.args.headroom.now c.args.caps.now in
-    let some : GivenAt c.requires.room.table c.requires.room.demands c.requires.room.room = c.requires.room.given in
-    front_length _ _ (lows_long some)
+slice_bounds-lend-end-8 c = front_length _ _ (lows_long c.requires.room.given)
 
 pub slice_bounds-lend-end-9 : goal.slice_bounds-lend-end-9
-slice_bounds-lend-end-9 c =
-    let GivenAt : (table demands : List ℕ) → Room → Type 0 = λ table demands r. PlanGiven table demands r c.args.counts c.args.parents.now c.args.left.now c.args.cords.now c.args.lows.now c.args.wants.now
-    c.args.headroom.now c.args.caps.now in
-    let some : GivenAt c.requires.room.table c.requires.room.demands c.requires.room.room = c.requires.room.given in
-    headroom_long some
+slice_bounds-lend-end-9 c = headroom_long c.requires.room.given
 
 pub slice_bounds-lend-end-10 : goal.slice_bounds-lend-end-10
-slice_bounds-lend-end-10 c =
-    let GivenAt : (table demands : List ℕ) → Room → Type 0 = λ table demands r. PlanGiven table demands r c.args.counts c.args.parents.now c.args.left.now c.args.cords.now c.args.lows.now c.args.wants.now
-    c.args.headroom.now c.args.caps.now in
-    let some : GivenAt c.requires.room.table c.requires.room.demands c.requires.room.room = c.requires.room.given in
-    front_length _ _ (headroom_long some)
+slice_bounds-lend-end-10 c = front_length _ _ (headroom_long c.requires.room.given)
 
 pub lend-requires : goal.lend-requires
 lend-requires c =
-    let count-nodes : ℕ = c.args.counts.nodes in
-    let count-cords : ℕ = c.args.counts.cords in
-    let count-servers : ℕ = c.args.counts.servers in
     let GivenAt : (table demands : List ℕ) → Room → Type 0 = λ table demands r. PlanGiven table demands r c.args.counts c.args.parents.now c.args.left.now c.args.cords.now c.args.lows.now c.args.wants.now
     c.args.headroom.now c.args.caps.now in
-    let some : GivenAt c.requires.room.table c.requires.room.demands c.requires.room.room = c.requires.room.given in
-    let nodes-back : List ℕ = c.list_nodes.new.nodes in
-    let nodes-after : List ℕ = rejoined count-cords (replicate most_cords 0) nodes-back in
-    let nodes-lent : Lent count-cords (replicate most_cords 0) nodes-back = lent-zeros most_cords (cords_few some) c.list_nodes.auto.nodes in
-    let nodes_listed : take count-cords nodes-after ≡ column node_column (take count-cords c.args.cords.now) = lent_again nodes-lent ∙ c.list_nodes.ensures.listed in
-    let wants_back : List ℕ = c.deal_twice-freed.new.wants in
-    let wants-after : List ℕ = rejoined count-cords c.args.wants.now wants_back in
-    let wants_lent : Lent count-cords c.args.wants.now wants_back = lent (wants_long some) c.deal_twice-freed.auto.wants in
-    let left_back : List ℕ = c.deal_twice-freed.new.left in
-    let left_after : List ℕ = rejoined count-nodes c.args.left.now left_back in
-    let left_lent : Lent count-nodes c.args.left.now left_back = lent (spare_long some) c.deal_twice-freed.auto.left in
-    let grants_back : List ℕ = c.deal_twice-freed.new.grants in
-    let grants_after : List ℕ = rejoined count-cords c.args.grants.now grants_back in
-    let grants_lent : Lent count-cords c.args.grants.now grants_back = lent c.requires.space.0 c.deal_twice-freed.auto.grants in
-    let caps-back : List ℕ = c.deal_twice-freed.new.caps in
-    let caps-after : List ℕ = rejoined count-servers c.args.caps.now caps-back in
-    let caps-lent : Lent count-servers c.args.caps.now caps-back = lent (caps_long some) c.deal_twice-freed.auto.caps in
-    let cuts_back : List ℕ = c.deal_twice-freed.new.cuts in
-    let cuts_after : List ℕ = rejoined count-nodes (replicate most_nodes 0) cuts_back in
-    let cuts_lent : Lent count-nodes (replicate most_nodes 0) cuts_back = lent-zeros most_nodes (nodes_few some) c.deal_twice-freed.auto.cuts in
-    let lists_z : (table demands : List ℕ) (r : Room) → GivenAt table demands r → RoomToDeal r demands (take count-nodes c.args.parents.now) (take count-nodes c.args.left.now) (take count-cords c.args.cords.now) (take count-cords nodes-after) (take count-cords c.args.lows.now) (take count-cords c.args.wants.now) (take count-servers c.args.caps.now) c.args.counts.scale = λ table demands r g. to_deal g nodes_listed in
-    let dealt_z : (table demands : List ℕ) (r : Room) → GivenAt table demands r → DealtTwice r demands c.deal_twice-freed.result (take count-cords wants-after) (take count-nodes left_after) (take count-nodes cuts_after) (take count-cords grants_after) (take count-servers caps-after) = λ table demands r g. rw (lent_again wants_lent, lent_again left_lent, lent_again cuts_lent, lent_again grants_lent, lent_again caps-lent)
+    let nodes-after : List ℕ = rejoined c.args.counts.cords (replicate most_cords 0) c.list_nodes.new.nodes in
+    let nodes-lent : Lent c.args.counts.cords (replicate most_cords 0) c.list_nodes.new.nodes = lent-zeros most_cords (cords_few c.requires.room.given) c.list_nodes.auto.nodes in
+    let nodes_listed : take c.args.counts.cords nodes-after ≡ column node_column (take c.args.counts.cords c.args.cords.now) = lent_again nodes-lent ∙ c.list_nodes.ensures.listed in
+    let wants-after : List ℕ = rejoined c.args.counts.cords c.args.wants.now c.deal_twice-freed.new.wants in
+    let wants_lent : Lent c.args.counts.cords c.args.wants.now c.deal_twice-freed.new.wants = lent (wants_long c.requires.room.given) c.deal_twice-freed.auto.wants in
+    let left_after : List ℕ = rejoined c.args.counts.nodes c.args.left.now c.deal_twice-freed.new.left in
+    let left_lent : Lent c.args.counts.nodes c.args.left.now c.deal_twice-freed.new.left = lent (spare_long c.requires.room.given) c.deal_twice-freed.auto.left in
+    let grants_after : List ℕ = rejoined c.args.counts.cords c.args.grants.now c.deal_twice-freed.new.grants in
+    let grants_lent : Lent c.args.counts.cords c.args.grants.now c.deal_twice-freed.new.grants = lent c.requires.space.0 c.deal_twice-freed.auto.grants in
+    let caps-after : List ℕ = rejoined c.args.counts.servers c.args.caps.now c.deal_twice-freed.new.caps in
+    let caps-lent : Lent c.args.counts.servers c.args.caps.now c.deal_twice-freed.new.caps = lent (caps_long c.requires.room.given) c.deal_twice-freed.auto.caps in
+    let cuts_after : List ℕ = rejoined c.args.counts.nodes (replicate most_nodes 0) c.deal_twice-freed.new.cuts in
+    let cuts_lent : Lent c.args.counts.nodes (replicate most_nodes 0) c.deal_twice-freed.new.cuts = lent-zeros most_nodes (nodes_few c.requires.room.given) c.deal_twice-freed.auto.cuts in
+    let lists_z : (table demands : List ℕ) (r : Room) → GivenAt table demands r → RoomToDeal r demands (take c.args.counts.nodes c.args.parents.now) (take c.args.counts.nodes c.args.left.now) (take c.args.counts.cords c.args.cords.now) (take c.args.counts.cords nodes-after) (take c.args.counts.cords c.args.lows.now) (take c.args.counts.cords c.args.wants.now) (take c.args.counts.servers c.args.caps.now) c.args.counts.scale = λ table demands r g. to_deal g nodes_listed in
+    let dealt_z : (table demands : List ℕ) (r : Room) → GivenAt table demands r → DealtTwice r demands c.deal_twice-freed.result (take c.args.counts.cords wants-after) (take c.args.counts.nodes left_after) (take c.args.counts.nodes cuts_after) (take c.args.counts.cords grants_after) (take c.args.counts.servers caps-after) = λ table demands r g. rw (lent_again wants_lent, lent_again left_lent, lent_again cuts_lent, lent_again grants_lent, lent_again caps-lent)
     (c.deal_twice-freed.ensures.dealt table demands r g.end g.is (lists_z table demands r g)) in
-    let lend_z : (table demands : List ℕ) (r : Room) → GivenAt table demands r → LendGiven (take count-nodes c.args.parents.now) (take count-cords nodes-after) (take count-cords wants-after) (take count-nodes left_after) (take count-cords c.args.headroom.now) (limits_of r) (levels_of r) (lows_of r) (first_used r demands) = λ table demands r g. lend_given (given_ok g) (lists_z table demands r g) (dealt_z table demands r g) (ceilings_given g) (sym (lent-front left_lent) ∙ front_length _ _ (parents_long g)) in
+    let lend_z : (table demands : List ℕ) (r : Room) → GivenAt table demands r → LendGiven (take c.args.counts.nodes c.args.parents.now) (take c.args.counts.cords nodes-after) (take c.args.counts.cords wants-after) (take c.args.counts.nodes left_after) (take c.args.counts.cords c.args.headroom.now) (limits_of r) (levels_of r) (lows_of r) (first_used r demands) = λ table demands r g. lend_given (given_ok g) (lists_z table demands r g) (dealt_z table demands r g) (ceilings_given g) (sym (lent-front left_lent) ∙ front_length _ _ (parents_long g)) in
     record {
       lists = (
-        record { limits = limits_of c.requires.room.room; levels = levels_of c.requires.room.room; lows = lows_of c.requires.room.room; starts = first_used c.requires.room.room c.requires.room.demands; given = lend_z _ _ _ some },
-        sym (front_length _ _ (lows_long some)) ∙ lent-front nodes-lent,
+        record { limits = limits_of c.requires.room.room; levels = levels_of c.requires.room.room; lows = lows_of c.requires.room.room; starts = first_used c.requires.room.room c.requires.room.demands; given = lend_z _ _ _ c.requires.room.given },
+        sym (front_length _ _ (lows_long c.requires.room.given)) ∙ lent-front nodes-lent,
       );
     }
 
 pub shape_of-left : goal.shape_of-left
 shape_of-left c =
-    let count-nodes : ℕ = c.args.counts.nodes in
-    let GivenAt : (table demands : List ℕ) → Room → Type 0 = λ table demands r. PlanGiven table demands r c.args.counts c.args.parents.now c.args.left.now c.args.cords.now c.args.lows.now c.args.wants.now
-    c.args.headroom.now c.args.caps.now in
-    let some : GivenAt c.requires.room.table c.requires.room.demands c.requires.room.room = c.requires.room.given in
     let left_back : List ℕ = c.deal_twice-freed.new.left in
-    let left_lent : Lent count-nodes c.args.left.now left_back = lent (spare_long some) c.deal_twice-freed.auto.left in
+    let left_lent : Lent c.args.counts.nodes c.args.left.now left_back = lent (spare_long c.requires.room.given) c.deal_twice-freed.auto.left in
     lent_length {back = c.lend.new.left} (lent (lent_few left_lent) c.lend.auto.left) ∙ lent_length left_lent
 
 pub returns : goal.returns
 returns c =
-    let count-nodes : ℕ = c.args.counts.nodes in
-    let count-cords : ℕ = c.args.counts.cords in
-    let count-servers : ℕ = c.args.counts.servers in
     let GivenAt : (table demands : List ℕ) → Room → Type 0 = λ table demands r. PlanGiven table demands r c.args.counts c.args.parents.now c.args.left.now c.args.cords.now c.args.lows.now c.args.wants.now
     c.args.headroom.now c.args.caps.now in
-    let some : GivenAt c.requires.room.table c.requires.room.demands c.requires.room.room = c.requires.room.given in
-    let nodes-back : List ℕ = c.list_nodes.new.nodes in
-    let nodes-after : List ℕ = rejoined count-cords (replicate most_cords 0) nodes-back in
-    let nodes-lent : Lent count-cords (replicate most_cords 0) nodes-back = lent-zeros most_cords (cords_few some) c.list_nodes.auto.nodes in
-    let nodes_listed : take count-cords nodes-after ≡ column node_column (take count-cords c.args.cords.now) = lent_again nodes-lent ∙ c.list_nodes.ensures.listed in
-    let wants_back : List ℕ = c.deal_twice-freed.new.wants in
-    let wants-after : List ℕ = rejoined count-cords c.args.wants.now wants_back in
-    let wants_lent : Lent count-cords c.args.wants.now wants_back = lent (wants_long some) c.deal_twice-freed.auto.wants in
-    let left_back : List ℕ = c.deal_twice-freed.new.left in
-    let left_after : List ℕ = rejoined count-nodes c.args.left.now left_back in
-    let left_lent : Lent count-nodes c.args.left.now left_back = lent (spare_long some) c.deal_twice-freed.auto.left in
-    let grants_back : List ℕ = c.deal_twice-freed.new.grants in
-    let grants_after : List ℕ = rejoined count-cords c.args.grants.now grants_back in
-    let grants_lent : Lent count-cords c.args.grants.now grants_back = lent c.requires.space.0 c.deal_twice-freed.auto.grants in
-    let caps-back : List ℕ = c.deal_twice-freed.new.caps in
-    let caps-after : List ℕ = rejoined count-servers c.args.caps.now caps-back in
-    let caps-lent : Lent count-servers c.args.caps.now caps-back = lent (caps_long some) c.deal_twice-freed.auto.caps in
-    let cuts_back : List ℕ = c.deal_twice-freed.new.cuts in
-    let cuts_after : List ℕ = rejoined count-nodes (replicate most_nodes 0) cuts_back in
-    let cuts_lent : Lent count-nodes (replicate most_nodes 0) cuts_back = lent-zeros most_nodes (nodes_few some) c.deal_twice-freed.auto.cuts in
-    let lists_z : (table demands : List ℕ) (r : Room) → GivenAt table demands r → RoomToDeal r demands (take count-nodes c.args.parents.now) (take count-nodes c.args.left.now) (take count-cords c.args.cords.now) (take count-cords nodes-after) (take count-cords c.args.lows.now) (take count-cords c.args.wants.now) (take count-servers c.args.caps.now) c.args.counts.scale = λ table demands r g. to_deal g nodes_listed in
-    let dealt_z : (table demands : List ℕ) (r : Room) → GivenAt table demands r → DealtTwice r demands c.deal_twice-freed.result (take count-cords wants-after) (take count-nodes left_after) (take count-nodes cuts_after) (take count-cords grants_after) (take count-servers caps-after) = λ table demands r g. rw (lent_again wants_lent, lent_again left_lent, lent_again cuts_lent, lent_again grants_lent, lent_again caps-lent)
+    let nodes-after : List ℕ = rejoined c.args.counts.cords (replicate most_cords 0) c.list_nodes.new.nodes in
+    let nodes-lent : Lent c.args.counts.cords (replicate most_cords 0) c.list_nodes.new.nodes = lent-zeros most_cords (cords_few c.requires.room.given) c.list_nodes.auto.nodes in
+    let nodes_listed : take c.args.counts.cords nodes-after ≡ column node_column (take c.args.counts.cords c.args.cords.now) = lent_again nodes-lent ∙ c.list_nodes.ensures.listed in
+    let wants-after : List ℕ = rejoined c.args.counts.cords c.args.wants.now c.deal_twice-freed.new.wants in
+    let wants_lent : Lent c.args.counts.cords c.args.wants.now c.deal_twice-freed.new.wants = lent (wants_long c.requires.room.given) c.deal_twice-freed.auto.wants in
+    let left_after : List ℕ = rejoined c.args.counts.nodes c.args.left.now c.deal_twice-freed.new.left in
+    let left_lent : Lent c.args.counts.nodes c.args.left.now c.deal_twice-freed.new.left = lent (spare_long c.requires.room.given) c.deal_twice-freed.auto.left in
+    let grants_after : List ℕ = rejoined c.args.counts.cords c.args.grants.now c.deal_twice-freed.new.grants in
+    let grants_lent : Lent c.args.counts.cords c.args.grants.now c.deal_twice-freed.new.grants = lent c.requires.space.0 c.deal_twice-freed.auto.grants in
+    let caps-after : List ℕ = rejoined c.args.counts.servers c.args.caps.now c.deal_twice-freed.new.caps in
+    let caps-lent : Lent c.args.counts.servers c.args.caps.now c.deal_twice-freed.new.caps = lent (caps_long c.requires.room.given) c.deal_twice-freed.auto.caps in
+    let cuts_after : List ℕ = rejoined c.args.counts.nodes (replicate most_nodes 0) c.deal_twice-freed.new.cuts in
+    let cuts_lent : Lent c.args.counts.nodes (replicate most_nodes 0) c.deal_twice-freed.new.cuts = lent-zeros most_nodes (nodes_few c.requires.room.given) c.deal_twice-freed.auto.cuts in
+    let lists_z : (table demands : List ℕ) (r : Room) → GivenAt table demands r → RoomToDeal r demands (take c.args.counts.nodes c.args.parents.now) (take c.args.counts.nodes c.args.left.now) (take c.args.counts.cords c.args.cords.now) (take c.args.counts.cords nodes-after) (take c.args.counts.cords c.args.lows.now) (take c.args.counts.cords c.args.wants.now) (take c.args.counts.servers c.args.caps.now) c.args.counts.scale = λ table demands r g. to_deal g nodes_listed in
+    let dealt_z : (table demands : List ℕ) (r : Room) → GivenAt table demands r → DealtTwice r demands c.deal_twice-freed.result (take c.args.counts.cords wants-after) (take c.args.counts.nodes left_after) (take c.args.counts.nodes cuts_after) (take c.args.counts.cords grants_after) (take c.args.counts.servers caps-after) = λ table demands r g. rw (lent_again wants_lent, lent_again left_lent, lent_again cuts_lent, lent_again grants_lent, lent_again caps-lent)
     (c.deal_twice-freed.ensures.dealt table demands r g.end g.is (lists_z table demands r g)) in
-    let held_z : (table demands : List ℕ) (r : Room) → GivenAt table demands r → HeldLists (take count-nodes c.args.parents.now) (take count-nodes cuts_after) (take count-cords c.args.cords.now) (take count-cords wants-after) (take count-cords grants_after) = λ table demands r g. held-lists (given_ok g) (lists_z table demands r g) (dealt_z table demands r g) (sym (lent-front cuts_lent) ∙ front_length _ _ (parents_long g)) in
-    let lend_z : (table demands : List ℕ) (r : Room) → GivenAt table demands r → LendGiven (take count-nodes c.args.parents.now) (take count-cords nodes-after) (take count-cords wants-after) (take count-nodes left_after) (take count-cords c.args.headroom.now) (limits_of r) (levels_of r) (lows_of r) (first_used r demands) = λ table demands r g. lend_given (given_ok g) (lists_z table demands r g) (dealt_z table demands r g) (ceilings_given g) (sym (lent-front left_lent) ∙ front_length _ _ (parents_long g)) in
+    let held_z : (table demands : List ℕ) (r : Room) → GivenAt table demands r → HeldLists (take c.args.counts.nodes c.args.parents.now) (take c.args.counts.nodes cuts_after) (take c.args.counts.cords c.args.cords.now) (take c.args.counts.cords wants-after) (take c.args.counts.cords grants_after) = λ table demands r g. held-lists (given_ok g) (lists_z table demands r g) (dealt_z table demands r g) (sym (lent-front cuts_lent) ∙ front_length _ _ (parents_long g)) in
+    let lend_z : (table demands : List ℕ) (r : Room) → GivenAt table demands r → LendGiven (take c.args.counts.nodes c.args.parents.now) (take c.args.counts.cords nodes-after) (take c.args.counts.cords wants-after) (take c.args.counts.nodes left_after) (take c.args.counts.cords c.args.headroom.now) (limits_of r) (levels_of r) (lows_of r) (first_used r demands) = λ table demands r g. lend_given (given_ok g) (lists_z table demands r g) (dealt_z table demands r g) (ceilings_given g) (sym (lent-front left_lent) ∙ front_length _ _ (parents_long g)) in
     record {
       planned =
           λ table demands r g.
@@ -479,7 +298,7 @@ returns c =
             freed_is = dealt.freed_is;
             lists_are = each _ (stands grants_lent _ (sym (lent_again grants_lent) ∙ second_dealt ok of dealt.made))
                 (stands caps-lent _ (sym (lent_again caps-lent) ∙ dealt.caps_are))
-                (stands (lent (headroom_long some) c.lend.auto.headroom) _ (headroom_made ok of dealt (ceilings_given g) lent_out))
+                (stands (lent (headroom_long c.requires.room.given) c.lend.auto.headroom) _ (headroom_made ok of dealt (ceilings_given g) lent_out))
                 (stands (lent c.requires.space.1 c.name_holders.auto.held) _ (held_made ok of dealt (held_z _ _ _ g) c.name_holders.ensures.named));
           };
     }

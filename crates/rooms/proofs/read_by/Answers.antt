@@ -9,9 +9,8 @@ use Rattle.rooms.proofs.read_by.Goals as goal
 
 pub returns-in_default : goal.returns-in_default
 returns-in_default c =
-    let args = c.args in
-    let same = reading-first args.sheet.now (length args.table.now) _ c.requires.space in
-    let done = refused_done _ args.table.now (sym same ∙ refused_told _ c.read_words-read.ensures.result c.in_default.is) in
+    let same = reading-first c.args.sheet.now (length c.args.table.now) _ c.requires.space in
+    let done = refused_done _ c.args.table.now (sym same ∙ refused_told _ c.read_words-read.ensures.result c.in_default.is) in
     record {
       result = c.in_default.is ∙ done.0;
       table = done.1;

@@ -14,16 +14,14 @@ returns-in-Refused c =
 pub returns-in-Bytes : goal.returns-in-Bytes
 returns-in-Bytes c =
     let good : Known room_cords (checked c.args.table.now 0) c.in_default.field-0 c.in_default.field-1 = known _ _ c.check-checked.ensures.result c.in_default.is in
-    let table = good in
-    let done = writing_bytes _ _ table.is c.encode_sheet.ensures.result c.in-Bytes.is in
+    let done = writing_bytes _ _ good.is c.encode_sheet.ensures.result c.in-Bytes.is in
     let both = accepted_done _ _ _ _ done.0 done.1 (rw c.in-Bytes.is at c.encode_sheet.ensures.sheet) in
     record { result = both.0; sheet = both.1 }
 
 pub returns-in-TooShort : goal.returns-in-TooShort
 returns-in-TooShort c =
     let good : Known room_cords (checked c.args.table.now 0) c.in_default.field-0 c.in_default.field-1 = known _ _ c.check-checked.ensures.result c.in_default.is in
-    let table = good in
-    let done = refused_done _ _ (writing_short _ _ table.is c.encode_sheet.ensures.result c.in-TooShort.is) in
+    let done = refused_done _ _ (writing_short _ _ good.is c.encode_sheet.ensures.result c.in-TooShort.is) in
     record {
       result = done.0;
       sheet = (rw c.in-TooShort.is at c.encode_sheet.ensures.sheet) ∙ done.1;
@@ -32,5 +30,4 @@ returns-in-TooShort c =
 pub returns-in-TooLarge : goal.returns-in-TooLarge
 returns-in-TooLarge c =
     let good : Known room_cords (checked c.args.table.now 0) c.in_default.field-0 c.in_default.field-1 = known _ _ c.check-checked.ensures.result c.in_default.is in
-    let table = good in
-    absurd (writing_large _ _ table.is c.encode_sheet.ensures.result c.in-TooLarge.is)
+    absurd (writing_large _ _ good.is c.encode_sheet.ensures.result c.in-TooLarge.is)

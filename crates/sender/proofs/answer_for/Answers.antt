@@ -34,8 +34,7 @@ returns-then-space-named c =
 pub position_after-requires : goal.position_after-requires
 position_after-requires c =
     let inside : not (in_range c.args.count c.args.position) ≡ false = sym c.out_of_range-outside.ensures.result ∙ c.if-outside.false in
-    let args = c.args in
-    let range = inside_is args.count args.position inside in
+    let range = inside_is c.args.count c.args.position inside in
     record {
       position_bounded = range.below;
       named_bounded = omega arith;

@@ -12,9 +12,8 @@ loop-i-init c = (omega arith, refl, refl, omega arith, refl, refl)
 
 pub loop-i-preserved : goal.loop-i-preserved
 loop-i-preserved c =
-    let args = c.args in
-    let turn = name_turn args.count args.position args.list.now c.loop-i.i (omega arith) in
-    let moved = position_after_suc args.count args.position c.loop-i.i in
+    let turn = name_turn c.args.count c.args.position c.args.list.now c.loop-i.i (omega arith) in
+    let moved = position_after_suc c.args.count c.args.position c.loop-i.i in
     (omega arith, refl, simp length-set (omega arith), c.follow-server.ensures.result.1, (cc), (cc))
 
 pub returns : goal.returns

@@ -7,10 +7,9 @@ use Rattle.sender.proofs.send.Goals as goal
 
 pub returns-in_default : goal.returns-in_default
 returns-in_default c =
-    let args = c.args in
     record {
       answer = c.answer_for-sent.ensures.answer;
-      list = refused_done args.count args.position args.m _ args.list.now c.answer_for-sent.ensures.answer c.in_default.is;
+      list = refused_done c.args.count c.args.position c.args.m _ c.args.list.now c.answer_for-sent.ensures.answer c.in_default.is;
     }
 
 pub slice_bounds-name_servers-end : goal.slice_bounds-name_servers-end
@@ -42,8 +41,7 @@ returns c =
     let accepting : Type 0 = let args = c.args in
     Told args.count args.position args.m (length args.list.now) c.in-Accepted.many in
     let told : accepting = accepted_told _ _ _ _ c.answer_for-sent.ensures.answer c.in-Accepted.is in
-    let args = c.args in
     record {
       answer = sym c.in-Accepted.is ∙ c.answer_for-sent.ensures.answer;
-      list = named_done args.count args.position args.m _ args.list.now refl told c.name_servers.ensures.list;
+      list = named_done c.args.count c.args.position c.args.m _ c.args.list.now refl told c.name_servers.ensures.list;
     }

@@ -22,24 +22,21 @@ returns-in_default c =
 
 pub slice_bounds-name_servers-end : goal.slice_bounds-name_servers-end
 slice_bounds-name_servers-end c =
-    let args = c.args in
-    let told : Told args.count args.position args.m (length args.list.now / 4) c.in-Accepted.many =
+    let told : Told c.args.count c.args.position c.args.m (length c.args.list.now / 4) c.in-Accepted.many =
     accepted_told _ _ _ _ c.answer_for-sent.ensures.answer c.in-Accepted.is in
     let fits : c.in-Accepted.many ≤ length c.args.servers.now = omega (arith, told.counted, told.inside.most, c.requires.servers_long) in
     fits
 
 pub slice_bounds-name_servers-end-2 : goal.slice_bounds-name_servers-end-2
 slice_bounds-name_servers-end-2 c =
-    let args = c.args in
-    let told : Told args.count args.position args.m (length args.list.now / 4) c.in-Accepted.many =
+    let told : Told c.args.count c.args.position c.args.m (length c.args.list.now / 4) c.in-Accepted.many =
     accepted_told _ _ _ _ c.answer_for-sent.ensures.answer c.in-Accepted.is in
     let fits : c.in-Accepted.many ≤ length c.args.servers.now = omega (arith, told.counted, told.inside.most, c.requires.servers_long) in
     sym (length-take-le _ _ fits)
 
 pub name_servers-requires : goal.name_servers-requires
 name_servers-requires c =
-    let args = c.args in
-    let told : Told args.count args.position args.m (length args.list.now / 4) c.in-Accepted.many =
+    let told : Told c.args.count c.args.position c.args.m (length c.args.list.now / 4) c.in-Accepted.many =
     accepted_told _ _ _ _ c.answer_for-sent.ensures.answer c.in-Accepted.is in
     record {
       position_bounded = told.inside.below;
@@ -48,28 +45,25 @@ name_servers-requires c =
 
 pub slice_bounds-store-end : goal.slice_bounds-store-end
 slice_bounds-store-end c =
-    let args = c.args in
-    let told : Told args.count args.position args.m (length args.list.now / 4) c.in-Accepted.many =
+    let told : Told c.args.count c.args.position c.args.m (length c.args.list.now / 4) c.in-Accepted.many =
     accepted_told _ _ _ _ c.answer_for-sent.ensures.answer c.in-Accepted.is in
     let fits : c.in-Accepted.many ≤ length c.args.servers.now = omega (arith, told.counted, told.inside.most, c.requires.servers_long) in
-    named_fits args.count args.position args.servers.now fits c.name_servers.ensures.list
+    named_fits c.args.count c.args.position c.args.servers.now fits c.name_servers.ensures.list
 
 pub slice_bounds-store-end-2 : goal.slice_bounds-store-end-2
 slice_bounds-store-end-2 c =
-    let args = c.args in
-    let told : Told args.count args.position args.m (length args.list.now / 4) c.in-Accepted.many =
+    let told : Told c.args.count c.args.position c.args.m (length c.args.list.now / 4) c.in-Accepted.many =
     accepted_told _ _ _ _ c.answer_for-sent.ensures.answer c.in-Accepted.is in
     let fits : c.in-Accepted.many ≤ length c.args.servers.now = omega (arith, told.counted, told.inside.most, c.requires.servers_long) in
-    sym (length-take-le _ _ (named_fits args.count args.position args.servers.now fits c.name_servers.ensures.list))
+    sym (length-take-le _ _ (named_fits c.args.count c.args.position c.args.servers.now fits c.name_servers.ensures.list))
 
 pub returns : goal.returns
 returns c =
-    let args = c.args in
-    let told : Told args.count args.position args.m (length args.list.now / 4) c.in-Accepted.many =
+    let told : Told c.args.count c.args.position c.args.m (length c.args.list.now / 4) c.in-Accepted.many =
     accepted_told _ _ _ _ c.answer_for-sent.ensures.answer c.in-Accepted.is in
     let fits : c.in-Accepted.many ≤ length c.args.servers.now = omega (arith, told.counted, told.inside.most, c.requires.servers_long) in
     record {
       called =
-          call_accepted args.count args.position args.m args.list.now args.answer.now (omega (arith, c.if-answer-lt-LONG_ANSWER_BYTES.false)) c.answer_for-sent.ensures.answer c.tell.ensures.told
-          args.servers.now told fits c.name_servers.ensures.list c.store.ensures.stored;
+          call_accepted c.args.count c.args.position c.args.m c.args.list.now c.args.answer.now (omega (arith, c.if-answer-lt-LONG_ANSWER_BYTES.false)) c.answer_for-sent.ensures.answer c.tell.ensures.told
+          c.args.servers.now told fits c.name_servers.ensures.list c.store.ensures.stored;
     }

@@ -13,15 +13,13 @@ loop-i-init c = (omega arith, refl, refl)
 
 pub loop-i-preserved : goal.loop-i-preserved
 loop-i-preserved c =
-    let args = c.args in
-    let read = get_or-words_of args.bytes.now c.loop-i.i (omega arith) in
-    let turn = sets_turn args.list.now (words_of args.bytes.now) c.loop-i.i 0 (omega (arith, length-words_of args.bytes.now)) in
+    let read = get_or-words_of c.args.bytes.now c.loop-i.i (omega arith) in
+    let turn = sets_turn c.args.list.now (words_of c.args.bytes.now) c.loop-i.i 0 (omega (arith, length-words_of c.args.bytes.now)) in
     (omega arith, (cc), simp length-set (omega arith))
 
 pub returns : goal.returns
 returns c =
-    let args = c.args in
-    let all = sets-take c.loop-i.i args.list.now (words_of args.bytes.now) (omega (arith, length-words_of args.bytes.now)) in
+    let all = sets-take c.loop-i.i c.args.list.now (words_of c.args.bytes.now) (omega (arith, length-words_of c.args.bytes.now)) in
     record {
       count = search rules;
       loaded = (cc);

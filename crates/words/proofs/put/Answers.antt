@@ -15,8 +15,7 @@ loop-i-init c =
 
 pub loop-i-preserved : goal.loop-i-preserved
 loop-i-preserved c =
-    let args = c.args in
-    let turn = sets-little_endian_turn c.loop-i.bytes args.at c.loop-i.i args.count c.loop-i.rest (omega arith) in
+    let turn = sets-little_endian_turn c.loop-i.bytes c.args.at c.loop-i.i c.args.count c.loop-i.rest (omega arith) in
     (omega arith, (cc), simp length-set (omega arith))
 
 pub returns : goal.returns

@@ -14,8 +14,7 @@ loop-i-init c = (omega arith, refl, refl)
 
 pub loop-i-preserved : goal.loop-i-preserved
 loop-i-preserved c =
-    let args = c.args in
-    let turn = sets-bytes_of_turn args.bytes.now args.list.now c.loop-i.i (omega (arith, c)) in
+    let turn = sets-bytes_of_turn c.args.bytes.now c.args.list.now c.loop-i.i (omega (arith, c)) in
     let size : length c.put.new.bytes ≡ length c.loop-i.bytes = c.put.auto.bytes in
     (omega (arith, c), (cc), (cc))
 

@@ -12,7 +12,6 @@ use Rattle.rooms.specs.Table.{most_nodes, highest_rank}
 use Rattle.figures.proofs.Cells.{zeros_rows, zeros_cells}
 use Rattle.figures.proofs.Filled.{zeros-at}
 use Rattle.figures.proofs.Fronts.{equal_length}
-use Rattle.deals.specs.Ranks.{SomeDeal}
 use Rattle.deals.proofs.RankLoop.{figures_length, LevelRow, loop_start, loop_end, level_fits, loop_skip, part_end, add_cords_asks, Summed, summed, request_asks, deal_nodes_asks, deal_cords_asks, loop_turn}
 use Rattle.deals.proofs.by_rank.deal.Goals as goal
 
@@ -26,20 +25,17 @@ loop-level-init c =
 
 pub offset_bounds-levels-level : goal.offset_bounds-levels-level
 offset_bounds-levels-level c =
-    let some_deal : SomeDeal c.args.parents.now c.args.levels.now c.args.order.now c.args.actives.now c.args.nodes.now c.args.starts.now c.args.wants.now c.args.left.now = c.requires.lists.0 in
-    let fits : c.loop-level.level - 1 < highest_rank = level_fits some_deal c.loop-level.invariant c.loop-level-test.true in
+    let fits : c.loop-level.level - 1 < highest_rank = level_fits c.requires.lists.0 c.loop-level.invariant c.loop-level-test.true in
     omega (arith, fits)
 
 pub offset_bounds-levels-level-in-loop-level : goal.offset_bounds-levels-level-in-loop-level
 offset_bounds-levels-level-in-loop-level c =
-    let some_deal : SomeDeal c.args.parents.now c.args.levels.now c.args.order.now c.args.actives.now c.args.nodes.now c.args.starts.now c.args.wants.now c.args.left.now = c.requires.lists.0 in
-    let fits : c.loop-level.level - 1 < highest_rank = level_fits some_deal c.loop-level.invariant c.loop-level-test.true in
+    let fits : c.loop-level.level - 1 < highest_rank = level_fits c.requires.lists.0 c.loop-level.invariant c.loop-level-test.true in
     omega (arith, fits)
 
 pub offset_bounds-levels-level-then-from-to : goal.offset_bounds-levels-level-then-from-to
 offset_bounds-levels-level-then-from-to c =
-    let some_deal : SomeDeal c.args.parents.now c.args.levels.now c.args.order.now c.args.actives.now c.args.nodes.now c.args.starts.now c.args.wants.now c.args.left.now = c.requires.lists.0 in
-    let fits : c.loop-level.level - 1 < highest_rank = level_fits some_deal c.loop-level.invariant c.loop-level-test.true in
+    let fits : c.loop-level.level - 1 < highest_rank = level_fits c.requires.lists.0 c.loop-level.invariant c.loop-level-test.true in
     omega (arith, fits)
 
 pub offset_bounds-order-from : goal.offset_bounds-order-from
@@ -47,9 +43,7 @@ offset_bounds-order-from c = omega (arith, c.index-from.ensures.result.1)
 
 pub slice_bounds-add_cords-count : goal.slice_bounds-add_cords-count
 slice_bounds-add_cords-count c =
-    let from : ℕ = c.index-from.result in
-    let to : ℕ = c.index-to.result in
-    let row : LevelRow c.args.levels.now (c.loop-level.level - 1) from to c.index-count.result = record {
+    let row : LevelRow c.args.levels.now (c.loop-level.level - 1) c.index-from.result c.index-to.result c.index-count.result = record {
       from_is = c.index-from.ensures.result.0;
       to_is = c.index-to.ensures.result.0;
       count_is = c.index-count.ensures.result.0;
@@ -59,32 +53,24 @@ slice_bounds-add_cords-count c =
 
 pub slice_bounds-add_cords-start : goal.slice_bounds-add_cords-start
 slice_bounds-add_cords-start c =
-    let some_deal : SomeDeal c.args.parents.now c.args.levels.now c.args.order.now c.args.actives.now c.args.nodes.now c.args.starts.now c.args.wants.now c.args.left.now = c.requires.lists.0 in
-    let from : ℕ = c.index-from.result in
-    let to : ℕ = c.index-to.result in
-    let more : 0 < c.loop-level.level = c.loop-level-test.true in
-    let row : LevelRow c.args.levels.now (c.loop-level.level - 1) from to c.index-count.result = record {
+    let row : LevelRow c.args.levels.now (c.loop-level.level - 1) c.index-from.result c.index-to.result c.index-count.result = record {
       from_is = c.index-from.ensures.result.0;
       to_is = c.index-to.ensures.result.0;
       count_is = c.index-count.ensures.result.0;
       has_cords = c.if-from-to.true;
     } in
-    let turn_end : to ≤ length c.args.order.now = part_end some_deal c.loop-level.invariant more row in
+    let turn_end : c.index-to.result ≤ length c.args.order.now = part_end c.requires.lists.0 c.loop-level.invariant c.loop-level-test.true row in
     omega (arith, row.has_cords, turn_end)
 
 pub slice_bounds-add_cords-end : goal.slice_bounds-add_cords-end
 slice_bounds-add_cords-end c =
-    let some_deal : SomeDeal c.args.parents.now c.args.levels.now c.args.order.now c.args.actives.now c.args.nodes.now c.args.starts.now c.args.wants.now c.args.left.now = c.requires.lists.0 in
-    let from : ℕ = c.index-from.result in
-    let to : ℕ = c.index-to.result in
-    let more : 0 < c.loop-level.level = c.loop-level-test.true in
-    let row : LevelRow c.args.levels.now (c.loop-level.level - 1) from to c.index-count.result = record {
+    let row : LevelRow c.args.levels.now (c.loop-level.level - 1) c.index-from.result c.index-to.result c.index-count.result = record {
       from_is = c.index-from.ensures.result.0;
       to_is = c.index-to.ensures.result.0;
       count_is = c.index-count.ensures.result.0;
       has_cords = c.if-from-to.true;
     } in
-    let turn_end : to ≤ length c.args.order.now = part_end some_deal c.loop-level.invariant more row in
+    let turn_end : c.index-to.result ≤ length c.args.order.now = part_end c.requires.lists.0 c.loop-level.invariant c.loop-level-test.true row in
     omega (arith, row.has_cords, turn_end)
 
 pub slice_bounds-add_cords-end-then-from-to : goal.slice_bounds-add_cords-end-then-from-to
@@ -95,40 +81,30 @@ slice_bounds-add_cords-end-then-from-to-2 c = sym c.loop-level.invariant.wholes_
 
 pub add_cords-requires : goal.add_cords-requires
 add_cords-requires c =
-    let some_deal : SomeDeal c.args.parents.now c.args.levels.now c.args.order.now c.args.actives.now c.args.nodes.now c.args.starts.now c.args.wants.now c.args.left.now = c.requires.lists.0 in
-    let from : ℕ = c.index-from.result in
-    let to : ℕ = c.index-to.result in
-    let more : 0 < c.loop-level.level = c.loop-level-test.true in
-    let row : LevelRow c.args.levels.now (c.loop-level.level - 1) from to c.index-count.result = record {
+    let row : LevelRow c.args.levels.now (c.loop-level.level - 1) c.index-from.result c.index-to.result c.index-count.result = record {
       from_is = c.index-from.ensures.result.0;
       to_is = c.index-to.ensures.result.0;
       count_is = c.index-count.ensures.result.0;
       has_cords = c.if-from-to.true;
     } in
-    let all = add_cords_asks some_deal c.loop-level.invariant more row in
+    let all = add_cords_asks c.requires.lists.0 c.loop-level.invariant c.loop-level-test.true row in
     record { cords = all.0; sizes = all.1.0; zeros = all.1.1 }
 
 pub offset_bounds-actives-level : goal.offset_bounds-actives-level
 offset_bounds-actives-level c =
-    let some_deal : SomeDeal c.args.parents.now c.args.levels.now c.args.order.now c.args.actives.now c.args.nodes.now c.args.starts.now c.args.wants.now c.args.left.now = c.requires.lists.0 in
-    let fits : c.loop-level.level - 1 < highest_rank = level_fits some_deal c.loop-level.invariant c.loop-level-test.true in
+    let fits : c.loop-level.level - 1 < highest_rank = level_fits c.requires.lists.0 c.loop-level.invariant c.loop-level-test.true in
     omega (arith, fits)
 
 pub slice_bounds-request-end-then-from-to : goal.slice_bounds-request-end-then-from-to
 slice_bounds-request-end-then-from-to c =
-    let some_deal : SomeDeal c.args.parents.now c.args.levels.now c.args.order.now c.args.actives.now c.args.nodes.now c.args.starts.now c.args.wants.now c.args.left.now = c.requires.lists.0 in
-    let from : ℕ = c.index-from.result in
-    let to : ℕ = c.index-to.result in
-    let more : 0 < c.loop-level.level = c.loop-level-test.true in
-    let row : LevelRow c.args.levels.now (c.loop-level.level - 1) from to c.index-count.result = record {
+    let row : LevelRow c.args.levels.now (c.loop-level.level - 1) c.index-from.result c.index-to.result c.index-count.result = record {
       from_is = c.index-from.ensures.result.0;
       to_is = c.index-to.ensures.result.0;
       count_is = c.index-count.ensures.result.0;
       has_cords = c.if-from-to.true;
     } in
-    let bases_s : List ℕ = c.add_cords.new.bases in
     let wholes_s : List ℕ = c.add_cords.new.wholes in
-    let sums_at : Summed some_deal c.loop-level.invariant more row bases_s wholes_s = summed some_deal c.loop-level.invariant more row
+    let sums_at : Summed c.requires.lists.0 c.loop-level.invariant c.loop-level-test.true row c.add_cords.new.bases wholes_s = summed c.requires.lists.0 c.loop-level.invariant c.loop-level-test.true row
     c.add_cords.auto.bases c.add_cords.auto.wholes c.add_cords.ensures.summed in
     sym sums_at.wholes_size
 
@@ -137,62 +113,45 @@ slice_bounds-request-end-then-from-to-2 c = sym c.loop-level.invariant.amounts_s
 
 pub slice_bounds-request-end-then-from-to-3 : goal.slice_bounds-request-end-then-from-to-3
 slice_bounds-request-end-then-from-to-3 c =
-    let some_deal : SomeDeal c.args.parents.now c.args.levels.now c.args.order.now c.args.actives.now c.args.nodes.now c.args.starts.now c.args.wants.now c.args.left.now = c.requires.lists.0 in
-    let from : ℕ = c.index-from.result in
-    let to : ℕ = c.index-to.result in
-    let more : 0 < c.loop-level.level = c.loop-level-test.true in
-    let row : LevelRow c.args.levels.now (c.loop-level.level - 1) from to c.index-count.result = record {
+    let row : LevelRow c.args.levels.now (c.loop-level.level - 1) c.index-from.result c.index-to.result c.index-count.result = record {
       from_is = c.index-from.ensures.result.0;
       to_is = c.index-to.ensures.result.0;
       count_is = c.index-count.ensures.result.0;
       has_cords = c.if-from-to.true;
     } in
-    let bases_s : List ℕ = c.add_cords.new.bases in
     let wholes_s : List ℕ = c.add_cords.new.wholes in
-    let sums_at : Summed some_deal c.loop-level.invariant more row bases_s wholes_s = summed some_deal c.loop-level.invariant more row
+    let sums_at : Summed c.requires.lists.0 c.loop-level.invariant c.loop-level-test.true row c.add_cords.new.bases wholes_s = summed c.requires.lists.0 c.loop-level.invariant c.loop-level-test.true row
     c.add_cords.auto.bases c.add_cords.auto.wholes c.add_cords.ensures.summed in
     sym sums_at.bases_size
 
 pub request-requires : goal.request-requires
 request-requires c =
-    let some_deal : SomeDeal c.args.parents.now c.args.levels.now c.args.order.now c.args.actives.now c.args.nodes.now c.args.starts.now c.args.wants.now c.args.left.now = c.requires.lists.0 in
-    let from : ℕ = c.index-from.result in
-    let to : ℕ = c.index-to.result in
-    let more : 0 < c.loop-level.level = c.loop-level-test.true in
-    let row : LevelRow c.args.levels.now (c.loop-level.level - 1) from to c.index-count.result = record {
+    let row : LevelRow c.args.levels.now (c.loop-level.level - 1) c.index-from.result c.index-to.result c.index-count.result = record {
       from_is = c.index-from.ensures.result.0;
       to_is = c.index-to.ensures.result.0;
       count_is = c.index-count.ensures.result.0;
       has_cords = c.if-from-to.true;
     } in
-    let bases_s : List ℕ = c.add_cords.new.bases in
-    let wholes_s : List ℕ = c.add_cords.new.wholes in
-    let sums_at : Summed some_deal c.loop-level.invariant more row bases_s wholes_s = summed some_deal c.loop-level.invariant more row
+    let sums_at : Summed c.requires.lists.0 c.loop-level.invariant c.loop-level-test.true row c.add_cords.new.bases c.add_cords.new.wholes = summed c.requires.lists.0 c.loop-level.invariant c.loop-level-test.true row
     c.add_cords.auto.bases c.add_cords.auto.wholes c.add_cords.ensures.summed in
-    let both = request_asks some_deal c.loop-level.invariant more row sums_at in
+    let both = request_asks c.requires.lists.0 c.loop-level.invariant c.loop-level-test.true row sums_at in
     record { weights = both.0; requests = both.1 }
 
 pub offset_bounds-actives-level-then-from-to : goal.offset_bounds-actives-level-then-from-to
 offset_bounds-actives-level-then-from-to c =
-    let some_deal : SomeDeal c.args.parents.now c.args.levels.now c.args.order.now c.args.actives.now c.args.nodes.now c.args.starts.now c.args.wants.now c.args.left.now = c.requires.lists.0 in
-    let fits : c.loop-level.level - 1 < highest_rank = level_fits some_deal c.loop-level.invariant c.loop-level-test.true in
+    let fits : c.loop-level.level - 1 < highest_rank = level_fits c.requires.lists.0 c.loop-level.invariant c.loop-level-test.true in
     omega (arith, fits)
 
 pub slice_bounds-deal_nodes-end-then-from-to : goal.slice_bounds-deal_nodes-end-then-from-to
 slice_bounds-deal_nodes-end-then-from-to c =
-    let some_deal : SomeDeal c.args.parents.now c.args.levels.now c.args.order.now c.args.actives.now c.args.nodes.now c.args.starts.now c.args.wants.now c.args.left.now = c.requires.lists.0 in
-    let from : ℕ = c.index-from.result in
-    let to : ℕ = c.index-to.result in
-    let more : 0 < c.loop-level.level = c.loop-level-test.true in
-    let row : LevelRow c.args.levels.now (c.loop-level.level - 1) from to c.index-count.result = record {
+    let row : LevelRow c.args.levels.now (c.loop-level.level - 1) c.index-from.result c.index-to.result c.index-count.result = record {
       from_is = c.index-from.ensures.result.0;
       to_is = c.index-to.ensures.result.0;
       count_is = c.index-count.ensures.result.0;
       has_cords = c.if-from-to.true;
     } in
-    let bases_s : List ℕ = c.add_cords.new.bases in
     let wholes_s : List ℕ = c.add_cords.new.wholes in
-    let sums_at : Summed some_deal c.loop-level.invariant more row bases_s wholes_s = summed some_deal c.loop-level.invariant more row
+    let sums_at : Summed c.requires.lists.0 c.loop-level.invariant c.loop-level-test.true row c.add_cords.new.bases wholes_s = summed c.requires.lists.0 c.loop-level.invariant c.loop-level-test.true row
     c.add_cords.auto.bases c.add_cords.auto.wholes c.add_cords.ensures.summed in
     let wholes_sized : length c.request.new.wholes ≡ figures_length = c.request.auto.wholes ∙ sums_at.wholes_size in
     sym wholes_sized
@@ -210,21 +169,15 @@ slice_bounds-deal_nodes-end-then-from-to-4 c = sym c.loop-level.invariant.dealt_
 
 pub deal_nodes-requires : goal.deal_nodes-requires
 deal_nodes-requires c =
-    let some_deal : SomeDeal c.args.parents.now c.args.levels.now c.args.order.now c.args.actives.now c.args.nodes.now c.args.starts.now c.args.wants.now c.args.left.now = c.requires.lists.0 in
-    let from : ℕ = c.index-from.result in
-    let to : ℕ = c.index-to.result in
-    let more : 0 < c.loop-level.level = c.loop-level-test.true in
-    let row : LevelRow c.args.levels.now (c.loop-level.level - 1) from to c.index-count.result = record {
+    let row : LevelRow c.args.levels.now (c.loop-level.level - 1) c.index-from.result c.index-to.result c.index-count.result = record {
       from_is = c.index-from.ensures.result.0;
       to_is = c.index-to.ensures.result.0;
       count_is = c.index-count.ensures.result.0;
       has_cords = c.if-from-to.true;
     } in
-    let bases_s : List ℕ = c.add_cords.new.bases in
-    let wholes_s : List ℕ = c.add_cords.new.wholes in
-    let sums_at : Summed some_deal c.loop-level.invariant more row bases_s wholes_s = summed some_deal c.loop-level.invariant more row
+    let sums_at : Summed c.requires.lists.0 c.loop-level.invariant c.loop-level-test.true row c.add_cords.new.bases c.add_cords.new.wholes = summed c.requires.lists.0 c.loop-level.invariant c.loop-level-test.true row
     c.add_cords.auto.bases c.add_cords.auto.wholes c.add_cords.ensures.summed in
-    let all = deal_nodes_asks some_deal c.loop-level.invariant more row sums_at c.request.ensures.weighed c.request.ensures.requested in
+    let all = deal_nodes_asks c.requires.lists.0 c.loop-level.invariant c.loop-level-test.true row sums_at c.request.ensures.weighed c.request.ensures.requested in
     record { nodes = all.0; weights = all.1.0; in_range = all.1.1 }
 
 pub offset_bounds-order-from-then-from-to : goal.offset_bounds-order-from-then-from-to
@@ -232,9 +185,7 @@ offset_bounds-order-from-then-from-to c = omega (arith, c.index-from.ensures.res
 
 pub slice_bounds-deal_cords-count : goal.slice_bounds-deal_cords-count
 slice_bounds-deal_cords-count c =
-    let from : ℕ = c.index-from.result in
-    let to : ℕ = c.index-to.result in
-    let row : LevelRow c.args.levels.now (c.loop-level.level - 1) from to c.index-count.result = record {
+    let row : LevelRow c.args.levels.now (c.loop-level.level - 1) c.index-from.result c.index-to.result c.index-count.result = record {
       from_is = c.index-from.ensures.result.0;
       to_is = c.index-to.ensures.result.0;
       count_is = c.index-count.ensures.result.0;
@@ -244,49 +195,36 @@ slice_bounds-deal_cords-count c =
 
 pub slice_bounds-deal_cords-start : goal.slice_bounds-deal_cords-start
 slice_bounds-deal_cords-start c =
-    let some_deal : SomeDeal c.args.parents.now c.args.levels.now c.args.order.now c.args.actives.now c.args.nodes.now c.args.starts.now c.args.wants.now c.args.left.now = c.requires.lists.0 in
-    let from : ℕ = c.index-from.result in
-    let to : ℕ = c.index-to.result in
-    let more : 0 < c.loop-level.level = c.loop-level-test.true in
-    let row : LevelRow c.args.levels.now (c.loop-level.level - 1) from to c.index-count.result = record {
+    let row : LevelRow c.args.levels.now (c.loop-level.level - 1) c.index-from.result c.index-to.result c.index-count.result = record {
       from_is = c.index-from.ensures.result.0;
       to_is = c.index-to.ensures.result.0;
       count_is = c.index-count.ensures.result.0;
       has_cords = c.if-from-to.true;
     } in
-    let turn_end : to ≤ length c.args.order.now = part_end some_deal c.loop-level.invariant more row in
+    let turn_end : c.index-to.result ≤ length c.args.order.now = part_end c.requires.lists.0 c.loop-level.invariant c.loop-level-test.true row in
     omega (arith, row.has_cords, turn_end)
 
 pub slice_bounds-deal_cords-end : goal.slice_bounds-deal_cords-end
 slice_bounds-deal_cords-end c =
-    let some_deal : SomeDeal c.args.parents.now c.args.levels.now c.args.order.now c.args.actives.now c.args.nodes.now c.args.starts.now c.args.wants.now c.args.left.now = c.requires.lists.0 in
-    let from : ℕ = c.index-from.result in
-    let to : ℕ = c.index-to.result in
-    let more : 0 < c.loop-level.level = c.loop-level-test.true in
-    let row : LevelRow c.args.levels.now (c.loop-level.level - 1) from to c.index-count.result = record {
+    let row : LevelRow c.args.levels.now (c.loop-level.level - 1) c.index-from.result c.index-to.result c.index-count.result = record {
       from_is = c.index-from.ensures.result.0;
       to_is = c.index-to.ensures.result.0;
       count_is = c.index-count.ensures.result.0;
       has_cords = c.if-from-to.true;
     } in
-    let turn_end : to ≤ length c.args.order.now = part_end some_deal c.loop-level.invariant more row in
+    let turn_end : c.index-to.result ≤ length c.args.order.now = part_end c.requires.lists.0 c.loop-level.invariant c.loop-level-test.true row in
     omega (arith, row.has_cords, turn_end)
 
 pub slice_bounds-deal_cords-end-then-from-to : goal.slice_bounds-deal_cords-end-then-from-to
 slice_bounds-deal_cords-end-then-from-to c =
-    let some_deal : SomeDeal c.args.parents.now c.args.levels.now c.args.order.now c.args.actives.now c.args.nodes.now c.args.starts.now c.args.wants.now c.args.left.now = c.requires.lists.0 in
-    let from : ℕ = c.index-from.result in
-    let to : ℕ = c.index-to.result in
-    let more : 0 < c.loop-level.level = c.loop-level-test.true in
-    let row : LevelRow c.args.levels.now (c.loop-level.level - 1) from to c.index-count.result = record {
+    let row : LevelRow c.args.levels.now (c.loop-level.level - 1) c.index-from.result c.index-to.result c.index-count.result = record {
       from_is = c.index-from.ensures.result.0;
       to_is = c.index-to.ensures.result.0;
       count_is = c.index-count.ensures.result.0;
       has_cords = c.if-from-to.true;
     } in
-    let bases_s : List ℕ = c.add_cords.new.bases in
     let wholes_s : List ℕ = c.add_cords.new.wholes in
-    let sums_at : Summed some_deal c.loop-level.invariant more row bases_s wholes_s = summed some_deal c.loop-level.invariant more row
+    let sums_at : Summed c.requires.lists.0 c.loop-level.invariant c.loop-level-test.true row c.add_cords.new.bases wholes_s = summed c.requires.lists.0 c.loop-level.invariant c.loop-level-test.true row
     c.add_cords.auto.bases c.add_cords.auto.wholes c.add_cords.ensures.summed in
     let wholes_sized : length c.request.new.wholes ≡ figures_length = c.request.auto.wholes ∙ sums_at.wholes_size in
     sym wholes_sized
@@ -309,49 +247,36 @@ slice_bounds-deal_cords-end-then-from-to-4 c =
 
 pub deal_cords-requires : goal.deal_cords-requires
 deal_cords-requires c =
-    let some_deal : SomeDeal c.args.parents.now c.args.levels.now c.args.order.now c.args.actives.now c.args.nodes.now c.args.starts.now c.args.wants.now c.args.left.now = c.requires.lists.0 in
-    let from : ℕ = c.index-from.result in
-    let to : ℕ = c.index-to.result in
-    let more : 0 < c.loop-level.level = c.loop-level-test.true in
-    let row : LevelRow c.args.levels.now (c.loop-level.level - 1) from to c.index-count.result = record {
+    let row : LevelRow c.args.levels.now (c.loop-level.level - 1) c.index-from.result c.index-to.result c.index-count.result = record {
       from_is = c.index-from.ensures.result.0;
       to_is = c.index-to.ensures.result.0;
       count_is = c.index-count.ensures.result.0;
       has_cords = c.if-from-to.true;
     } in
-    let bases_s : List ℕ = c.add_cords.new.bases in
-    let wholes_s : List ℕ = c.add_cords.new.wholes in
-    let sums_at : Summed some_deal c.loop-level.invariant more row bases_s wholes_s = summed some_deal c.loop-level.invariant more row
+    let sums_at : Summed c.requires.lists.0 c.loop-level.invariant c.loop-level-test.true row c.add_cords.new.bases c.add_cords.new.wholes = summed c.requires.lists.0 c.loop-level.invariant c.loop-level-test.true row
     c.add_cords.auto.bases c.add_cords.auto.wholes c.add_cords.ensures.summed in
     let wholes_sized : length c.request.new.wholes ≡ figures_length = c.request.auto.wholes ∙ sums_at.wholes_size in
     let weights_sized : length c.request.new.weights ≡ figures_length = c.request.auto.weights ∙ c.loop-level.invariant.amounts_size in
     let amounts_sized : length c.deal_nodes.new.amounts ≡ figures_length = c.deal_nodes.auto.amounts ∙ weights_sized in
     let before_sized : length c.deal_nodes.new.before ≡ figures_length = c.deal_nodes.auto.before ∙ c.loop-level.invariant.before_size in
     let dealt_sized : length c.deal_nodes.new.dealt ≡ figures_length = c.deal_nodes.auto.dealt ∙ c.loop-level.invariant.dealt_size in
-    let all = deal_cords_asks some_deal c.loop-level.invariant more row sums_at c.request.ensures.weighed c.request.ensures.requested
+    let all = deal_cords_asks c.requires.lists.0 c.loop-level.invariant c.loop-level-test.true row sums_at c.request.ensures.weighed c.request.ensures.requested
     c.deal_nodes.ensures.nodes_dealt wholes_sized amounts_sized before_sized dealt_sized in
     record { cords = all.0; sizes = all.1.0; in_range = all.1.1 }
 
 pub loop-level-smaller-then-from-to : goal.loop-level-smaller-then-from-to
-loop-level-smaller-then-from-to c =
-    let more : 0 < c.loop-level.level = c.loop-level-test.true in
-    falls_down _ more
+loop-level-smaller-then-from-to c = falls_down _ c.loop-level-test.true
 
 pub loop-level-preserved-then-from-to : goal.loop-level-preserved-then-from-to
 loop-level-preserved-then-from-to c =
-    let some_deal : SomeDeal c.args.parents.now c.args.levels.now c.args.order.now c.args.actives.now c.args.nodes.now c.args.starts.now c.args.wants.now c.args.left.now = c.requires.lists.0 in
-    let from : ℕ = c.index-from.result in
-    let to : ℕ = c.index-to.result in
-    let more : 0 < c.loop-level.level = c.loop-level-test.true in
-    let row : LevelRow c.args.levels.now (c.loop-level.level - 1) from to c.index-count.result = record {
+    let row : LevelRow c.args.levels.now (c.loop-level.level - 1) c.index-from.result c.index-to.result c.index-count.result = record {
       from_is = c.index-from.ensures.result.0;
       to_is = c.index-to.ensures.result.0;
       count_is = c.index-count.ensures.result.0;
       has_cords = c.if-from-to.true;
     } in
-    let bases_s : List ℕ = c.add_cords.new.bases in
     let wholes_s : List ℕ = c.add_cords.new.wholes in
-    let sums_at : Summed some_deal c.loop-level.invariant more row bases_s wholes_s = summed some_deal c.loop-level.invariant more row
+    let sums_at : Summed c.requires.lists.0 c.loop-level.invariant c.loop-level-test.true row c.add_cords.new.bases wholes_s = summed c.requires.lists.0 c.loop-level.invariant c.loop-level-test.true row
     c.add_cords.auto.bases c.add_cords.auto.wholes c.add_cords.ensures.summed in
     let wholes_sized : length c.request.new.wholes ≡ figures_length = c.request.auto.wholes ∙ sums_at.wholes_size in
     let weights_sized : length c.request.new.weights ≡ figures_length = c.request.auto.weights ∙ c.loop-level.invariant.amounts_size in
@@ -359,28 +284,22 @@ loop-level-preserved-then-from-to c =
     let amounts_sized : length c.deal_nodes.new.amounts ≡ figures_length = c.deal_nodes.auto.amounts ∙ weights_sized in
     let before_sized : length c.deal_nodes.new.before ≡ figures_length = c.deal_nodes.auto.before ∙ c.loop-level.invariant.before_size in
     let dealt_sized : length c.deal_nodes.new.dealt ≡ figures_length = c.deal_nodes.auto.dealt ∙ c.loop-level.invariant.dealt_size in
-    let left_kept : length c.request.new.left ≡ length c.loop-level.left = c.request.auto.left in
-    let cuts_kept : length c.request.new.cuts ≡ length c.loop-level.cuts = c.request.auto.cuts in
-    let grants_kept : length c.deal_cords.new.grants ≡ length c.loop-level.grants = c.deal_cords.auto.grants in
     let before_left : length c.deal_cords.new.before ≡ figures_length = c.deal_cords.auto.before ∙ before_sized in
     let dealt_left : length c.deal_cords.new.dealt ≡ figures_length = c.deal_cords.auto.dealt ∙ dealt_sized in
-    loop_turn some_deal c.loop-level.invariant more row sums_at c.request.ensures.weighed c.request.ensures.requested
+    loop_turn c.requires.lists.0 c.loop-level.invariant c.loop-level-test.true row sums_at c.request.ensures.weighed c.request.ensures.requested
     c.deal_nodes.ensures.nodes_dealt wholes_sized amounts_sized before_sized dealt_sized
-    c.deal_cords.ensures.cords_dealt left_kept cuts_kept grants_kept bases_sized before_left dealt_left
+    c.deal_cords.ensures.cords_dealt c.request.auto.left c.request.auto.cuts c.deal_cords.auto.grants bases_sized before_left dealt_left
 
 pub loop-level-smaller : goal.loop-level-smaller
 loop-level-smaller c = falls_down _ c.loop-level-test.true
 
 pub loop-level-preserved : goal.loop-level-preserved
 loop-level-preserved c =
-    let some_deal : SomeDeal c.args.parents.now c.args.levels.now c.args.order.now c.args.actives.now c.args.nodes.now c.args.starts.now c.args.wants.now c.args.left.now = c.requires.lists.0 in
-    loop_skip some_deal c.loop-level.invariant c.loop-level-test.true c.index-from.ensures.result.0 c.index-to.ensures.result.0
+    loop_skip c.requires.lists.0 c.loop-level.invariant c.loop-level-test.true c.index-from.ensures.result.0 c.index-to.ensures.result.0
     (omega (arith, c.if-from-to.false))
 
 pub shape_of-left : goal.shape_of-left
-shape_of-left c =
-    let some_deal : SomeDeal c.args.parents.now c.args.levels.now c.args.order.now c.args.actives.now c.args.nodes.now c.args.starts.now c.args.wants.now c.args.left.now = c.requires.lists.0 in
-    c.loop-level.invariant.left_size ∙ sym some_deal.given.spared.size
+shape_of-left c = c.loop-level.invariant.left_size ∙ sym c.requires.lists.0.given.spared.size
 
 pub shape_of-cuts : goal.shape_of-cuts
 shape_of-cuts c = c.loop-level.invariant.cuts_size ∙ sym c.requires.lists.1.size
@@ -389,9 +308,7 @@ pub shape_of-grants : goal.shape_of-grants
 shape_of-grants c = c.loop-level.invariant.grants_size ∙ sym c.requires.lists.2
 
 pub returns : goal.returns
-returns c =
-    let some_deal : SomeDeal c.args.parents.now c.args.levels.now c.args.order.now c.args.actives.now c.args.nodes.now c.args.starts.now c.args.wants.now c.args.left.now = c.requires.lists.0 in
-    record { dealt = loop_end some_deal c.loop-level.invariant c.loop-level-test.false }
+returns c = record { dealt = loop_end c.requires.lists.0 c.loop-level.invariant c.loop-level-test.false }
 
 pub bounds-levels-0 : goal.bounds-levels-0
 bounds-levels-0 c = omega arith

@@ -3,7 +3,7 @@
 use mathlib.Core.Path.{◌≡◌, ap, ◌∙◌}
 use Prim.Native.Nat.{ℕ, ◌+◌, ◌-◌, ◌≤◌, ◌<◌}
 use native.Mathlib.Omega.{arith}
-use Rattle.rooms.specs.Table.{most_nodes, most_watts, highest_rank}
+use Rattle.rooms.specs.Table.{most_nodes, most_watts}
 use Rattle.figures.specs.Figures.{at, cell}
 use Rattle.figures.proofs.Cells.{stored}
 use Rattle.deals.specs.Passes.{cut_mark}
@@ -66,10 +66,7 @@ offset_bounds-requests-n c =
     omega (arith, row)
 
 pub offset_bounds-requests-level : goal.offset_bounds-requests-level
-offset_bounds-requests-level c =
-    let level : ℕ = c.args.level in
-    let column : level < highest_rank = c.loop-i.invariant.requesting.given.ranked in
-    omega (arith, column)
+offset_bounds-requests-level c = omega (arith, c.loop-i.invariant.requesting.given.ranked)
 
 pub offset_bounds-requests-n-in-loop-i : goal.offset_bounds-requests-n-in-loop-i
 offset_bounds-requests-n-in-loop-i c =
@@ -77,16 +74,12 @@ offset_bounds-requests-n-in-loop-i c =
     omega (arith, row)
 
 pub offset_bounds-requests-level-in-loop-i : goal.offset_bounds-requests-level-in-loop-i
-offset_bounds-requests-level-in-loop-i c =
-    let level : ℕ = c.args.level in
-    let column : level < highest_rank = c.loop-i.invariant.requesting.given.ranked in
-    omega (arith, column)
+offset_bounds-requests-level-in-loop-i c = omega (arith, c.loop-i.invariant.requesting.given.ranked)
 
 pub overflow_sub-weights : goal.overflow_sub-weights
 overflow_sub-weights c =
-    let level : ℕ = c.args.level in
     let asked : ℕ = c.narrow-start.result + c.take-weight.result in
-    let row_read : cell (stored c.loop-i.requests c.index-n.result level asked) c.index-n.result level ≡ asked = row_here c.loop-i.invariant c.loop-i-test.true c.index-n.ensures.result.0 asked in
+    let row_read : cell (stored c.loop-i.requests c.index-n.result c.args.level asked) c.index-n.result c.args.level ≡ asked = row_here c.loop-i.invariant c.loop-i-test.true c.index-n.ensures.result.0 asked in
     omega (arith, row_read)
 
 pub bounds-weights-n : goal.bounds-weights-n
@@ -103,13 +96,12 @@ bounds-bases-n-in-loop-i c = omega (arith, in_bases c.loop-i.invariant c.loop-i-
 
 pub loop-i-preserved : goal.loop-i-preserved
 loop-i-preserved c =
-    let level : ℕ = c.args.level in
     let asked : ℕ = c.narrow-start.result + c.take-weight.result in
-    let row_read : cell (stored c.loop-i.requests c.index-n.result level asked) c.index-n.result level ≡ asked = row_here c.loop-i.invariant c.loop-i-test.true c.index-n.ensures.result.0 asked in
+    let row_read : cell (stored c.loop-i.requests c.index-n.result c.args.level asked) c.index-n.result c.args.level ≡ asked = row_here c.loop-i.invariant c.loop-i-test.true c.index-n.ensures.result.0 asked in
     request_turn c.loop-i.invariant c.loop-i-test.true c.index-n.ensures.result.0
     c.take-weight.ensures.weight c.take-weight.ensures.taken c.wide.ensures.result.0 (read_again _ _ _ row_read)
     c.index-parent.ensures.result.0 c.credit.ensures.credited
-    (c.marked.ensures.result ∙ ap (λ (x : ℕ). cut_mark (at c.loop-i.cuts c.index-n.result) level x (at c.loop-i.wholes c.index-n.result)) c.wide-in-loop-i.ensures.result.0)
+    (c.marked.ensures.result ∙ ap (λ (x : ℕ). cut_mark (at c.loop-i.cuts c.index-n.result) c.args.level x (at c.loop-i.wholes c.index-n.result)) c.wide-in-loop-i.ensures.result.0)
     (ap (λ (x : ℕ). x + c.take-weight.result) c.narrow-start.ensures.result)
     (c.wide-in-loop-i-2.ensures.result.0 ∙ c.narrow-start.ensures.result) c.credit-in-loop-i.ensures.credited
 

@@ -6,9 +6,8 @@ use Rattle.demands.proofs.DemandReading.finish.Goals as goal
 
 pub returns-then-has_byte : goal.returns-then-has_byte
 returns-then-has_byte c =
-    let args = c.args in
     let some = sym c.has_byte.ensures.result ∙ c.if-has_byte.true in
-    let is = c.close-last.ensures.closed ∙ sym (finished_inside args.self args.list.now some) in
+    let is = c.close-last.ensures.closed ∙ sym (finished_inside c.args.self c.args.list.now some) in
     record {
       list = ap (λ (h : HeldReading). h.list) is;
       count = c.least.ensures.result ∙ ap held_count is;
@@ -16,9 +15,8 @@ returns-then-has_byte c =
 
 pub returns : goal.returns
 returns c =
-    let args = c.args in
     let none = sym c.has_byte.ensures.result ∙ c.if-has_byte.false in
-    let is = sym (finished_between args.self args.list.now none) in
+    let is = sym (finished_between c.args.self c.args.list.now none) in
     record {
       list = ap (λ (h : HeldReading). h.list) is;
       count = c.least-2.ensures.result ∙ ap held_count is;

@@ -42,9 +42,8 @@ pub take_rises-requires : goal.take_rises-requires
 take_rises-requires c =
     let zeros : List ℕ = take (length c.args.parents.now) (replicate most_nodes 0) in
     let zeros_size : length zeros ≡ length c.args.parents.now = zeros-front most_nodes (length c.args.parents.now) c.requires.raisable.few-nodes in
-    let back : List ℕ = c.credit_rises.new.raised in
-    let zeros-lent : Lent (length c.args.parents.now) (replicate most_nodes 0) back = lent-zeros most_nodes c.requires.raisable.few-nodes c.credit_rises.auto.raised in
-    let again : List ℕ = let n = length c.args.parents.now in take n (rejoined n (replicate most_nodes 0) back) in
+    let zeros-lent : Lent (length c.args.parents.now) (replicate most_nodes 0) c.credit_rises.new.raised = lent-zeros most_nodes c.requires.raisable.few-nodes c.credit_rises.auto.raised in
+    let again : List ℕ = let n = length c.args.parents.now in take n (rejoined n (replicate most_nodes 0) c.credit_rises.new.raised) in
     let raised : Raised c.args.parents.now c.args.nodes.now c.args.lows.now c.args.starts.now again = raised_again c.requires.raisable zeros zeros_size c.credit_rises.auto.raised (lent_again zeros-lent) c.credit_rises.ensures.in_range
     c.credit_rises.ensures.raised in
     let all = take_asks c.requires.raisable raised in
@@ -54,9 +53,8 @@ pub returns : goal.returns
 returns c =
     let zeros : List ℕ = take (length c.args.parents.now) (replicate most_nodes 0) in
     let zeros_size : length zeros ≡ length c.args.parents.now = zeros-front most_nodes (length c.args.parents.now) c.requires.raisable.few-nodes in
-    let back : List ℕ = c.credit_rises.new.raised in
-    let zeros-lent : Lent (length c.args.parents.now) (replicate most_nodes 0) back = lent-zeros most_nodes c.requires.raisable.few-nodes c.credit_rises.auto.raised in
-    let again : List ℕ = let n = length c.args.parents.now in take n (rejoined n (replicate most_nodes 0) back) in
+    let zeros-lent : Lent (length c.args.parents.now) (replicate most_nodes 0) c.credit_rises.new.raised = lent-zeros most_nodes c.requires.raisable.few-nodes c.credit_rises.auto.raised in
+    let again : List ℕ = let n = length c.args.parents.now in take n (rejoined n (replicate most_nodes 0) c.credit_rises.new.raised) in
     let raised : Raised c.args.parents.now c.args.nodes.now c.args.lows.now c.args.starts.now again = raised_again c.requires.raisable zeros zeros_size c.credit_rises.auto.raised (lent_again zeros-lent) c.credit_rises.ensures.in_range
     c.credit_rises.ensures.raised in
     record { raised = raised-end c.requires.raisable raised c.take_rises.new.left c.take_rises.ensures.taken }

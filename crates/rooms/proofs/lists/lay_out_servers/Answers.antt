@@ -2,8 +2,7 @@
 -- ---- What is known at a turn of the outer loop, at one of the inner loop, and after that
 -- ---- The needs
 use mathlib.Core.Path.{sym, ◌∙◌}
-use mathlib.Core.List.{List}
-use Prim.Native.Nat.{ℕ, ◌<◌}
+use Prim.Native.Nat.{◌<◌}
 use native.Mathlib.Omega.{arith}
 use lib.ListN.{length}
 use Rattle.rooms.proofs.Walk.{ServerHere}
@@ -16,43 +15,37 @@ loop-v-init c = (omega arith, omega arith, laying_start c.requires.good c.requir
 pub offset_bounds-table-start : goal.offset_bounds-table-start
 offset_bounds-table-start c =
     let more : c.loop-v.v < length c.loop-v.servers = omega (arith, c.loop-v-test.true, c.loop-v.invariant.1) in
-    let table : List ℕ = c.args.table.now in
-    let standing : ServerHere table c.loop-v.invariant.2.room c.loop-v.v c.loop-v.start c.loop-v.first = laying_server c.loop-v.invariant.2 more in
+    let standing : ServerHere c.args.table.now c.loop-v.invariant.2.room c.loop-v.v c.loop-v.start c.loop-v.first = laying_server c.loop-v.invariant.2 more in
     omega (arith, standing.there)
 
 pub bounds-table-start : goal.bounds-table-start
 bounds-table-start c =
     let more : c.loop-v.v < length c.loop-v.servers = omega (arith, c.loop-v-test.true, c.loop-v.invariant.1) in
-    let table : List ℕ = c.args.table.now in
-    let standing : ServerHere table c.loop-v.invariant.2.room c.loop-v.v c.loop-v.start c.loop-v.first = laying_server c.loop-v.invariant.2 more in
+    let standing : ServerHere c.args.table.now c.loop-v.invariant.2.room c.loop-v.v c.loop-v.start c.loop-v.first = laying_server c.loop-v.invariant.2 more in
     omega (arith, standing.there)
 
 pub overflow_add-start : goal.overflow_add-start
 overflow_add-start c =
     let more : c.loop-v.v < length c.loop-v.servers = omega (arith, c.loop-v-test.true, c.loop-v.invariant.1) in
-    let table : List ℕ = c.args.table.now in
-    let standing : ServerHere table c.loop-v.invariant.2.room c.loop-v.v c.loop-v.start c.loop-v.first = laying_server c.loop-v.invariant.2 more in
+    let standing : ServerHere c.args.table.now c.loop-v.invariant.2.room c.loop-v.v c.loop-v.start c.loop-v.first = laying_server c.loop-v.invariant.2 more in
     omega (arith, standing.there)
 
 pub offset_bounds-table-start-in-loop-v : goal.offset_bounds-table-start-in-loop-v
 offset_bounds-table-start-in-loop-v c =
     let more : c.loop-v.v < length c.loop-v.servers = omega (arith, c.loop-v-test.true, c.loop-v.invariant.1) in
-    let table : List ℕ = c.args.table.now in
-    let standing : ServerHere table c.loop-v.invariant.2.room c.loop-v.v c.loop-v.start c.loop-v.first = laying_server c.loop-v.invariant.2 more in
+    let standing : ServerHere c.args.table.now c.loop-v.invariant.2.room c.loop-v.v c.loop-v.start c.loop-v.first = laying_server c.loop-v.invariant.2 more in
     omega (arith, standing.there)
 
 pub bounds-table-start-in-loop-v : goal.bounds-table-start-in-loop-v
 bounds-table-start-in-loop-v c =
     let more : c.loop-v.v < length c.loop-v.servers = omega (arith, c.loop-v-test.true, c.loop-v.invariant.1) in
-    let table : List ℕ = c.args.table.now in
-    let standing : ServerHere table c.loop-v.invariant.2.room c.loop-v.v c.loop-v.start c.loop-v.first = laying_server c.loop-v.invariant.2 more in
+    let standing : ServerHere c.args.table.now c.loop-v.invariant.2.room c.loop-v.v c.loop-v.start c.loop-v.first = laying_server c.loop-v.invariant.2 more in
     omega (arith, standing.there)
 
 pub overflow_add-word : goal.overflow_add-word
 overflow_add-word c =
     let more : c.loop-v.v < length c.loop-v.servers = omega (arith, c.loop-v-test.true, c.loop-v.invariant.1) in
-    let table : List ℕ = c.args.table.now in
-    let standing : ServerHere table c.loop-v.invariant.2.room c.loop-v.v c.loop-v.start c.loop-v.first = laying_server c.loop-v.invariant.2 more in
+    let standing : ServerHere c.args.table.now c.loop-v.invariant.2.room c.loop-v.v c.loop-v.start c.loop-v.first = laying_server c.loop-v.invariant.2 more in
     omega (arith, standing.there)
 
 pub overflow_add-c-end : goal.overflow_add-c-end
@@ -67,32 +60,27 @@ loop-c-init c =
 
 pub offset_bounds-table-word : goal.offset_bounds-table-word
 offset_bounds-table-word c =
-    let table : List ℕ = c.args.table.now in
-    let fits : CordFits table c.loop-v.v c.loop-c.c c.loop-c.word c.loop-c.cords = cord_fits c.loop-c.invariant c.loop-c-test.true in
+    let fits : CordFits c.args.table.now c.loop-v.v c.loop-c.c c.loop-c.word c.loop-c.cords = cord_fits c.loop-c.invariant c.loop-c-test.true in
     omega (arith, fits.there)
 
 pub bounds-table-word : goal.bounds-table-word
 bounds-table-word c =
-    let table : List ℕ = c.args.table.now in
-    let fits : CordFits table c.loop-v.v c.loop-c.c c.loop-c.word c.loop-c.cords = cord_fits c.loop-c.invariant c.loop-c-test.true in
+    let fits : CordFits c.args.table.now c.loop-v.v c.loop-c.c c.loop-c.word c.loop-c.cords = cord_fits c.loop-c.invariant c.loop-c-test.true in
     omega (arith, fits.there)
 
 pub overflow_add-share : goal.overflow_add-share
 overflow_add-share c =
-    let table : List ℕ = c.args.table.now in
-    let fits : CordFits table c.loop-v.v c.loop-c.c c.loop-c.word c.loop-c.cords = cord_fits c.loop-c.invariant c.loop-c-test.true in
+    let fits : CordFits c.args.table.now c.loop-v.v c.loop-c.c c.loop-c.word c.loop-c.cords = cord_fits c.loop-c.invariant c.loop-c-test.true in
     omega (arith, fits.there)
 
 pub offset_bounds-table-word-in-loop-c : goal.offset_bounds-table-word-in-loop-c
 offset_bounds-table-word-in-loop-c c =
-    let table : List ℕ = c.args.table.now in
-    let fits : CordFits table c.loop-v.v c.loop-c.c c.loop-c.word c.loop-c.cords = cord_fits c.loop-c.invariant c.loop-c-test.true in
+    let fits : CordFits c.args.table.now c.loop-v.v c.loop-c.c c.loop-c.word c.loop-c.cords = cord_fits c.loop-c.invariant c.loop-c-test.true in
     omega (arith, fits.there)
 
 pub bounds-table-word-in-loop-c : goal.bounds-table-word-in-loop-c
 bounds-table-word-in-loop-c c =
-    let table : List ℕ = c.args.table.now in
-    let fits : CordFits table c.loop-v.v c.loop-c.c c.loop-c.word c.loop-c.cords = cord_fits c.loop-c.invariant c.loop-c-test.true in
+    let fits : CordFits c.args.table.now c.loop-v.v c.loop-c.c c.loop-c.word c.loop-c.cords = cord_fits c.loop-c.invariant c.loop-c-test.true in
     omega (arith, fits.there)
 
 pub cord_row-requires : goal.cord_row-requires
@@ -100,26 +88,22 @@ cord_row-requires c = record { in_range = row_fits c.loop-c.invariant c.loop-c-t
 
 pub offset_bounds-cords-c : goal.offset_bounds-cords-c
 offset_bounds-cords-c c =
-    let table : List ℕ = c.args.table.now in
-    let fits : CordFits table c.loop-v.v c.loop-c.c c.loop-c.word c.loop-c.cords = cord_fits c.loop-c.invariant c.loop-c-test.true in
+    let fits : CordFits c.args.table.now c.loop-v.v c.loop-c.c c.loop-c.word c.loop-c.cords = cord_fits c.loop-c.invariant c.loop-c-test.true in
     omega (arith, fits.cord_few)
 
 pub bounds-cords-c : goal.bounds-cords-c
 bounds-cords-c c =
-    let table : List ℕ = c.args.table.now in
-    let fits : CordFits table c.loop-v.v c.loop-c.c c.loop-c.word c.loop-c.cords = cord_fits c.loop-c.invariant c.loop-c-test.true in
+    let fits : CordFits c.args.table.now c.loop-v.v c.loop-c.c c.loop-c.word c.loop-c.cords = cord_fits c.loop-c.invariant c.loop-c-test.true in
     omega (arith, fits.in_cords)
 
 pub overflow_add-word-in-loop-c : goal.overflow_add-word-in-loop-c
 overflow_add-word-in-loop-c c =
-    let table : List ℕ = c.args.table.now in
-    let fits : CordFits table c.loop-v.v c.loop-c.c c.loop-c.word c.loop-c.cords = cord_fits c.loop-c.invariant c.loop-c-test.true in
+    let fits : CordFits c.args.table.now c.loop-v.v c.loop-c.c c.loop-c.word c.loop-c.cords = cord_fits c.loop-c.invariant c.loop-c-test.true in
     omega (arith, fits.there)
 
 pub overflow_step-c : goal.overflow_step-c
 overflow_step-c c =
-    let table : List ℕ = c.args.table.now in
-    let fits : CordFits table c.loop-v.v c.loop-c.c c.loop-c.word c.loop-c.cords = cord_fits c.loop-c.invariant c.loop-c-test.true in
+    let fits : CordFits c.args.table.now c.loop-v.v c.loop-c.c c.loop-c.word c.loop-c.cords = cord_fits c.loop-c.invariant c.loop-c-test.true in
     omega (arith, fits.cord_few)
 
 pub loop-c-smaller : goal.loop-c-smaller
@@ -131,64 +115,55 @@ loop-c-preserved c = server-cord c.loop-c.invariant c.loop-c-test.true c.cord_ro
 pub overflow_add-servers : goal.overflow_add-servers
 overflow_add-servers c =
     let more : c.loop-v.v < length c.loop-v.servers = omega (arith, c.loop-v-test.true, c.loop-v.invariant.1) in
-    let table : List ℕ = c.args.table.now in
-    let standing : ServerHere table c.loop-v.invariant.2.room c.loop-v.v c.loop-v.start c.loop-v.first = laying_server c.loop-v.invariant.2 more in
+    let standing : ServerHere c.args.table.now c.loop-v.invariant.2.room c.loop-v.v c.loop-v.start c.loop-v.first = laying_server c.loop-v.invariant.2 more in
     omega (arith, standing.there)
 
 pub offset_bounds-table-start-in-loop-v-2 : goal.offset_bounds-table-start-in-loop-v-2
 offset_bounds-table-start-in-loop-v-2 c =
     let more : c.loop-v.v < length c.loop-v.servers = omega (arith, c.loop-v-test.true, c.loop-v.invariant.1) in
-    let table : List ℕ = c.args.table.now in
-    let standing : ServerHere table c.loop-v.invariant.2.room c.loop-v.v c.loop-v.start c.loop-v.first = laying_server c.loop-v.invariant.2 more in
+    let standing : ServerHere c.args.table.now c.loop-v.invariant.2.room c.loop-v.v c.loop-v.start c.loop-v.first = laying_server c.loop-v.invariant.2 more in
     omega (arith, standing.there)
 
 pub bounds-table-start-in-loop-v-2 : goal.bounds-table-start-in-loop-v-2
 bounds-table-start-in-loop-v-2 c =
     let more : c.loop-v.v < length c.loop-v.servers = omega (arith, c.loop-v-test.true, c.loop-v.invariant.1) in
-    let table : List ℕ = c.args.table.now in
-    let standing : ServerHere table c.loop-v.invariant.2.room c.loop-v.v c.loop-v.start c.loop-v.first = laying_server c.loop-v.invariant.2 more in
+    let standing : ServerHere c.args.table.now c.loop-v.invariant.2.room c.loop-v.v c.loop-v.start c.loop-v.first = laying_server c.loop-v.invariant.2 more in
     omega (arith, standing.there)
 
 pub overflow_add-servers-in-loop-v : goal.overflow_add-servers-in-loop-v
 overflow_add-servers-in-loop-v c =
     let more : c.loop-v.v < length c.loop-v.servers = omega (arith, c.loop-v-test.true, c.loop-v.invariant.1) in
-    let table : List ℕ = c.args.table.now in
-    let standing : ServerHere table c.loop-v.invariant.2.room c.loop-v.v c.loop-v.start c.loop-v.first = laying_server c.loop-v.invariant.2 more in
+    let standing : ServerHere c.args.table.now c.loop-v.invariant.2.room c.loop-v.v c.loop-v.start c.loop-v.first = laying_server c.loop-v.invariant.2 more in
     omega (arith, standing.there)
 
 pub offset_bounds-table-start-in-loop-v-3 : goal.offset_bounds-table-start-in-loop-v-3
 offset_bounds-table-start-in-loop-v-3 c =
     let more : c.loop-v.v < length c.loop-v.servers = omega (arith, c.loop-v-test.true, c.loop-v.invariant.1) in
-    let table : List ℕ = c.args.table.now in
-    let standing : ServerHere table c.loop-v.invariant.2.room c.loop-v.v c.loop-v.start c.loop-v.first = laying_server c.loop-v.invariant.2 more in
+    let standing : ServerHere c.args.table.now c.loop-v.invariant.2.room c.loop-v.v c.loop-v.start c.loop-v.first = laying_server c.loop-v.invariant.2 more in
     omega (arith, standing.there)
 
 pub bounds-table-start-in-loop-v-3 : goal.bounds-table-start-in-loop-v-3
 bounds-table-start-in-loop-v-3 c =
     let more : c.loop-v.v < length c.loop-v.servers = omega (arith, c.loop-v-test.true, c.loop-v.invariant.1) in
-    let table : List ℕ = c.args.table.now in
-    let standing : ServerHere table c.loop-v.invariant.2.room c.loop-v.v c.loop-v.start c.loop-v.first = laying_server c.loop-v.invariant.2 more in
+    let standing : ServerHere c.args.table.now c.loop-v.invariant.2.room c.loop-v.v c.loop-v.start c.loop-v.first = laying_server c.loop-v.invariant.2 more in
     omega (arith, standing.there)
 
 pub overflow_add-servers-in-loop-v-2 : goal.overflow_add-servers-in-loop-v-2
 overflow_add-servers-in-loop-v-2 c =
     let more : c.loop-v.v < length c.loop-v.servers = omega (arith, c.loop-v-test.true, c.loop-v.invariant.1) in
-    let table : List ℕ = c.args.table.now in
-    let standing : ServerHere table c.loop-v.invariant.2.room c.loop-v.v c.loop-v.start c.loop-v.first = laying_server c.loop-v.invariant.2 more in
+    let standing : ServerHere c.args.table.now c.loop-v.invariant.2.room c.loop-v.v c.loop-v.start c.loop-v.first = laying_server c.loop-v.invariant.2 more in
     omega (arith, standing.there)
 
 pub offset_bounds-table-start-in-loop-v-4 : goal.offset_bounds-table-start-in-loop-v-4
 offset_bounds-table-start-in-loop-v-4 c =
     let more : c.loop-v.v < length c.loop-v.servers = omega (arith, c.loop-v-test.true, c.loop-v.invariant.1) in
-    let table : List ℕ = c.args.table.now in
-    let standing : ServerHere table c.loop-v.invariant.2.room c.loop-v.v c.loop-v.start c.loop-v.first = laying_server c.loop-v.invariant.2 more in
+    let standing : ServerHere c.args.table.now c.loop-v.invariant.2.room c.loop-v.v c.loop-v.start c.loop-v.first = laying_server c.loop-v.invariant.2 more in
     omega (arith, standing.there)
 
 pub bounds-table-start-in-loop-v-4 : goal.bounds-table-start-in-loop-v-4
 bounds-table-start-in-loop-v-4 c =
     let more : c.loop-v.v < length c.loop-v.servers = omega (arith, c.loop-v-test.true, c.loop-v.invariant.1) in
-    let table : List ℕ = c.args.table.now in
-    let standing : ServerHere table c.loop-v.invariant.2.room c.loop-v.v c.loop-v.start c.loop-v.first = laying_server c.loop-v.invariant.2 more in
+    let standing : ServerHere c.args.table.now c.loop-v.invariant.2.room c.loop-v.v c.loop-v.start c.loop-v.first = laying_server c.loop-v.invariant.2 more in
     omega (arith, standing.there)
 
 pub offset_bounds-servers-v : goal.offset_bounds-servers-v

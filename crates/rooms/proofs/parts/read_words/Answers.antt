@@ -4,9 +4,8 @@ use Rattle.rooms.proofs.parts.read_words.Goals as goal
 
 pub returns-in-Refused : goal.returns-in-Refused
 returns-in-Refused c =
-    let args = c.args in
     record {
-      result = first_bad_number args.sheet.now args.words.now args.space c.decode_sheet-judged.ensures.result c.in-Refused.is;
+      result = first_bad_number c.args.sheet.now c.args.words.now c.args.space c.decode_sheet-judged.ensures.result c.in-Refused.is;
       words = c.decode_sheet-judged.ensures.words;
     }
 
@@ -15,8 +14,7 @@ slice_bounds-answer_for-end-2 c = front_length _ _ c.least-front.ensures.result
 
 pub returns : goal.returns
 returns c =
-    let args = c.args in
     record {
-      result = first_answered args.sheet.now args.words.now args.space (whole_so _ c.decode_sheet-judged.ensures.result c.in-Words.is) c.decode_sheet-judged.ensures.words c.least-front.ensures.result c.answer_for.ensures.result;
+      result = first_answered c.args.sheet.now c.args.words.now c.args.space (whole_so _ c.decode_sheet-judged.ensures.result c.in-Words.is) c.decode_sheet-judged.ensures.words c.least-front.ensures.result c.answer_for.ensures.result;
       words = c.decode_sheet-judged.ensures.words;
     }

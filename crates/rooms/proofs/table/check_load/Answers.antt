@@ -22,10 +22,9 @@ returns-in_default c =
 pub check_cords-cords-requires : goal.check_cords-cords-requires
 check_cords-cords-requires c =
     let count_few : c.in-Good.count ≤ most_server_cords = omega (arith, word_most _ _ _ _ c.check_word-first.ensures.result c.in-Good.is, c.lesser.ensures.result) in
-    let few = count_few in
     record {
-      in_range = (c.requires.in_range.0, omega (arith, few), c.requires.in_range.2);
-      sums_fit = (c.requires.sums_fit.0, omega (arith, few, c.requires.sums_fit.1));
+      in_range = (c.requires.in_range.0, omega (arith, count_few), c.requires.in_range.2);
+      sums_fit = (c.requires.sums_fit.0, omega (arith, count_few, c.requires.sums_fit.1));
     }
 
 pub returns-in_default-cords : goal.returns-in_default-cords

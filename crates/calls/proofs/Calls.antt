@@ -5,8 +5,9 @@ use mathlib.Core.List.{List, [], ◌∷◌, ◌++◌, append_assoc, append-nil}
 use Prim.Native.Nat.{ℕ, ◌+◌, ◌*◌, ◌≤◌, ◌<◌}
 use native.Mathlib.Omega.{arith}
 use borrow.Author.Tests.{le-leb, lt-leb}
-use lib.ListN.{length, length-append}
-use lib.Seq.{sets, length-sets}
+use native.Mathlib.Numerals.{add-one}
+use lib.ListN.{length, length-append, get_or, take}
+use lib.Seq.{sets, length-sets, length-take-le, take-suc}
 use Rattle.words.specs.Bytes.{little_endian, number_stored}
 use Rattle.figures.proofs.Stores.{sets-append}
 use Rattle.words.proofs.Bytes.{length-little_endian, number_stored_whole}
@@ -45,31 +46,27 @@ answer_bytes_more [] number = append-nil (little_endian 8 number)
 answer_bytes_more (n ∷ rest) number =
     ap (λ (l : List ℕ). little_endian 8 n ++ l) (answer_bytes_more rest number) ∙ sym (append_assoc (little_endian 8 n) (answer_bytes rest) (little_endian 8 number))
 
--- One number more, behind those that are stored.
-pub number_more : (buffer numbers : List ℕ) (number at : ℕ) {stored stored' : List ℕ} → at ≡ 8 * length numbers → at + 8 ≤ length buffer
-    → stored ≡ sets buffer 0 (answer_bytes numbers) → stored' ≡ number_stored number stored at → stored' ≡ sets buffer 0 (answer_bytes (numbers ++ (number ∷ [])))
-number_more buffer numbers number at {stored} {stored'} e h s m =
-    let size : length stored ≡ length buffer = ap length s ∙ length-sets buffer 0 (answer_bytes numbers) in
-    let place : 0 + length (answer_bytes numbers) ≡ at = omega (arith, length-answer_bytes numbers) in
-    m ∙ number_stored_whole number stored at (omega arith) ∙ sym (rw (answer_bytes_more numbers number, sets-append, place, s) refl)
+-- A turn of a loop that stores numbers from a place on: one more, behind those that are stored.
+pub store_turn : (buffer numbers : List ℕ) (from i : ℕ) {stored stored' : List ℕ} → i < length numbers → from + 8 * length numbers ≤ length buffer
+    → stored ≡ sets buffer from (answer_bytes (take i numbers)) → stored' ≡ number_stored (get_or numbers i 0) stored (from + 8 * i)
+    → stored' ≡ sets buffer from (answer_bytes (take (i + 1) numbers))
+store_turn buffer numbers from i {stored} {stored'} h room s m =
+    let front = answer_bytes (take i numbers) in
+    let size : length stored ≡ length buffer = ap length s ∙ length-sets buffer from front in
+    let place : from + length front ≡ from + 8 * i = omega (arith, length-answer_bytes (take i numbers), length-take-le i numbers (omega arith)) in
+    m ∙ number_stored_whole (get_or numbers i 0) stored (from + 8 * i) (omega arith)
+    ∙ sym (rw (add-one, take-suc numbers i 0 h, answer_bytes_more (take i numbers) (get_or numbers i 0), sets-append, place, s) refl)
 
--- Two numbers, and a third.
-pub two_stored : (number figure : ℕ) (buffer : List ℕ) {one two : List ℕ} → 16 ≤ length buffer → one ≡ number_stored number buffer 0 → two ≡ number_stored figure one 8
-    → two ≡ answered 2 (number ∷ figure ∷ []) buffer
-unfolding answer_bytes
-two_stored number figure buffer h a b =
-    number_more buffer (number ∷ []) figure 8 refl (omega arith) (number_more buffer [] number 0 refl (omega arith) refl a) b
-    ∙ sym (answered_long 2 buffer (number ∷ figure ∷ []) (omega arith))
+-- 0 and figures, and a refusal's number and place, as they stand in a buffer with space for so many numbers.
+pub told_accepted : (count : ℕ) (buffer figures : List ℕ) {one two : List ℕ} → 8 * count ≤ length buffer → one ≡ sets buffer 0 (answer_bytes (0 ∷ []))
+    → two ≡ sets one 8 (answer_bytes figures) → two ≡ answered count (0 ∷ figures) buffer
+unfolding answer_bytes little_endian
+told_accepted count buffer figures h a b =
+    b ∙ ap (λ (l : List ℕ). sets l 8 (answer_bytes figures)) a ∙ sym (answered_long count buffer (0 ∷ figures) h)
 
-pub three_stored : (number first second : ℕ) (buffer : List ℕ) {two three : List ℕ} → 24 ≤ length buffer → two ≡ answered 2 (number ∷ first ∷ []) buffer
-    → three ≡ number_stored second two 16 → three ≡ answered 3 (number ∷ first ∷ second ∷ []) buffer
-three_stored number first second buffer h a b =
-    number_more buffer (number ∷ first ∷ []) second 16 refl (omega arith) (a ∙ answered_long 2 buffer (number ∷ first ∷ []) (omega arith)) b
-    ∙ sym (answered_long 3 buffer (number ∷ first ∷ second ∷ []) (omega arith))
-
--- Two numbers are stored alike in a buffer for three.
-pub two_of_three : (numbers buffer : List ℕ) → 24 ≤ length buffer → answered 2 numbers buffer ≡ answered 3 numbers buffer
-two_of_three numbers buffer h = answered_long 2 buffer numbers (omega arith) ∙ sym (answered_long 3 buffer numbers (omega arith))
+pub told_refused : (count : ℕ) (buffer : List ℕ) {one : List ℕ} {number place k v : ℕ} → 8 * count ≤ length buffer → k ≡ number → v ≡ place
+    → one ≡ sets buffer 0 (answer_bytes (k ∷ v ∷ [])) → one ≡ answered count (number ∷ place ∷ []) buffer
+told_refused count buffer {one} {number} {place} h n p a = rw (n, p) at a ∙ sym (answered_long count buffer (number ∷ place ∷ []) h)
 
 -- An answer is told by its number and its figure.
 pub answer-told : (answer : List ℕ) {answer' : List ℕ} {number figure k v : ℕ} → k ≡ number → v ≡ figure → answer' ≡ answered 2 (k ∷ v ∷ []) answer

@@ -1,5 +1,5 @@
 -- The C calls: what each returns and leaves in its buffers, whatever its operation.
-use Rattle.std.specs.Prelude.{◌≡◌, Bool, cond, List, [], ◌∷◌, ◌++◌, ℕ, ◌*◌, leb, length}
+use Rattle.std.specs.Prelude.{◌≡◌, Bool, cond, List, [], ◌∷◌, ◌++◌, ℕ, ◌*◌, leb, length, Result, Ok, Err}
 use Rattle.std.proofs.lemmas.List.Edits.{sets}
 use Rattle.outcomes.specs.Outcome.{Outcome, after}
 use Rattle.words.specs.Bytes.{little_endian}
@@ -18,6 +18,11 @@ holds_answer count buffer = leb (8 * count) (length buffer)
 -- A buffer after an answer of up to so many numbers: they stand at its front; or it is as it was, where it is too short for so many.
 unfoldable pub answered : ℕ → List ℕ → List ℕ → List ℕ
 answered count numbers buffer = cond (holds_answer count buffer) (sets buffer 0 (answer_bytes numbers)) buffer
+
+-- The numbers of an answer: 0 and the figures, or the refusal's number and place.
+abbrev pub told_numbers : {R : Type 0} → (number place : R → ℕ) → Result (List ℕ) R → List ℕ
+told_numbers number place (Ok figures) = 0 ∷ figures
+told_numbers number place (Err refusal) = number refusal ∷ place refusal ∷ []
 
 -- ---- Calls
 

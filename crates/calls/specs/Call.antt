@@ -19,10 +19,10 @@ holds_answer count buffer = leb (8 * count) (length buffer)
 unfoldable pub answered : ℕ → List ℕ → List ℕ → List ℕ
 answered count numbers buffer = cond (holds_answer count buffer) (sets buffer 0 (answer_bytes numbers)) buffer
 
--- The numbers of an answer: 0 and the figures, or the refusal's number and place.
-abbrev pub told_numbers : {R : Type 0} → (number place : R → ℕ) → Result (List ℕ) R → List ℕ
-told_numbers number place (Ok figures) = 0 ∷ figures
-told_numbers number place (Err refusal) = number refusal ∷ place refusal ∷ []
+-- The numbers of an answer: 0 and the figures of a result, or a refusal's number and place.
+abbrev pub told_numbers : {A R : Type 0} → (figures : A → List ℕ) → (number place : R → ℕ) → Result A R → List ℕ
+told_numbers figures number place (Ok result) = 0 ∷ figures result
+told_numbers figures number place (Err refusal) = number refusal ∷ place refusal ∷ []
 
 -- ---- Calls
 

@@ -1,7 +1,7 @@
 // The answer of a C call: numbers of eight bytes each, low byte first, at the front of its buffer.
 #![tactic(auto)]
 
-ghost use Rattle.std.specs.Prelude.{◌≡◌, ℕ, suc, ◌+◌, ◌*◌, ◌≤◌, ◌<◌, length};
+ghost use Rattle.std.specs.Prelude.{◌≡◌, List, [], ◌∷◌, ℕ, ◌+◌, ◌*◌, ◌≤◌, length};
 ghost use Rattle.std.proofs.lemmas.List.Edits.{sets};
 ghost use Rattle.calls.specs.Call.{answer_bytes, answered, told_numbers};
 
@@ -12,18 +12,43 @@ pub const ANSWER_BYTES: usize = 16;
 
 pub const LONG_ANSWER_BYTES: usize = 24;
 
-// An answer of up to N + 1 numbers: 0 and N figures, or a refusal's number and place. A buffer that is too short for so many is left alone.
-pub fn tell<const N: usize, R: Refusal>(answer: Result<[u64; N], R>, buffer: &mut [u8])
+// What an answer tells of a result: so many figures.
+pub trait Figures<const N: usize>: Copy {
+    ghost figures_of: { Self → List ℕ };
+
+    fn figures(self) -> [u64; N]
+        ensures result { result ≡ figures_of self };
+}
+
+impl Figures<1> for u64 {
+    ghost figures_of = { λ figure. figure ∷ [] };
+
+    fn figures(self) -> [u64; 1] {
+        [self]
+    }
+}
+
+impl Figures<1> for usize {
+    ghost figures_of = { λ count. count ∷ [] };
+
+    fn figures(self) -> [u64; 1] {
+        [self as u64]
+    }
+}
+
+// An answer of up to N + 1 numbers: 0 and the figures of a result, or a refusal's number and place. A buffer that is too short for so many
+// is left alone.
+pub fn tell<const N: usize, A: Figures<N>, R: Refusal>(answer: Result<A, R>, buffer: &mut [u8])
     requires figures { 1 ≤ N }
-    ensures told { buffer.new ≡ answered (N + 1) (told_numbers R.number_of R.place_of answer) buffer.old }
+    ensures told { buffer.new ≡ answered (N + 1) (told_numbers A.figures_of R.number_of R.place_of answer) buffer.old }
 {
     if buffer.len() / 8 <= N {
         return;
     }
     match answer {
-        Ok(figures) => {
+        Ok(result) => {
             store(&[0], buffer, 0);
-            store(&figures, buffer, 8);
+            store(&result.figures(), buffer, 8);
         }
         Err(refusal) => store(&[refusal.number(), refusal.place()], buffer, 0),
     }

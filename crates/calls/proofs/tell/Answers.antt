@@ -1,7 +1,10 @@
 -- `tell` meets its contract: 0 is stored in front of the figures, or a refusal's two numbers.
-use mathlib.Core.Path.{sym}
+use mathlib.Core.Path.{sym, ap, ◌∙◌}
+use mathlib.Core.List.{List}
+use Prim.Native.Nat.{ℕ}
+use lib.Seq.{sets}
 use native.Mathlib.Omega.{arith}
-use Rattle.calls.specs.Call.{told_numbers}
+use Rattle.calls.specs.Call.{answer_bytes, told_numbers}
 use Rattle.calls.proofs.Calls.{answered_short, told_accepted, told_refused}
 use Rattle.calls.proofs.tell.Goals as goal
 
@@ -10,13 +13,13 @@ returns-then-buffer g c =
     record {
       told =
           let refusal = g.R.Refusal in
-          sym (answered_short _ c.args.buffer.now (told_numbers refusal.number_of refusal.place_of c.args.answer) (omega (arith, c.if-buffer.true)));
+          sym (answered_short _ c.args.buffer.now (told_numbers g.A.Figures.figures_of refusal.number_of refusal.place_of c.args.answer) (omega (arith, c.if-buffer.true)));
     }
 
 pub returns-in-Ok : goal.returns-in-Ok
 returns-in-Ok g c =
     record {
-      told = rw c.in-Ok.is (told_accepted _ c.args.buffer.now c.in-Ok.figures (omega (arith, c.if-buffer.false)) c.store.ensures.stored c.store-in-Ok.ensures.stored);
+      told = rw c.in-Ok.is (told_accepted _ c.args.buffer.now _ (omega (arith, c.if-buffer.false)) c.store.ensures.stored (c.store-in-Ok.ensures.stored ∙ ap (λ (l : List ℕ). sets c.store.new.buffer 8 (answer_bytes l)) c.figures.ensures.result));
     }
 
 pub returns-in-Err : goal.returns-in-Err

@@ -15,7 +15,7 @@ use Rattle.sender.specs.Period.{servers_from, position_after, period, named_coun
 use Rattle.sender.specs.Outcome.{most_servers, SendOutcome, in_range, sending, answer_of}
 use Rattle.sender.specs.Promises.{InRange}
 use Rattle.sender.specs.declared.Sent.{Sent}
-use Rattle.sender.specs.declared.Sent.TheVariants.{Accepted, Refused}
+use Rattle.std.specs.Prelude.{Ok, Err}
 use Rattle.sender.specs.declared.SendRefusal.{SendRefusal}
 use Rattle.sender.specs.declared.SendRefusal.TheVariants.{NoMessages, PositionOutOfRange, ListTooShort}
 use Rattle.sender.proofs.Periods.{length-servers_from}
@@ -86,10 +86,10 @@ module _ (count position m space : ℕ) where
 
       -- The answers that follow, where so many are to be named.
       module _ {named : ℕ} (is : named ≡ many) where
-        pub answer_short : space < named → Refused (ListTooShort named) ≡ answer_of outcome
-        answer_short h = ap (λ (n : ℕ). Refused (ListTooShort n)) is ∙ sym (ap answer_of (sending_short (omega arith)))
+        pub answer_short : space < named → Err (ListTooShort named) ≡ answer_of outcome
+        answer_short h = ap (λ (n : ℕ). Err (ListTooShort n)) is ∙ sym (ap answer_of (sending_short (omega arith)))
 
-        pub answer_whole : {next : ℕ} → named ≤ space → next ≡ position_after count position named → Accepted named next ≡ answer_of outcome
+        pub answer_whole : {next : ℕ} → named ≤ space → next ≡ position_after count position named → Ok (record { named = named; next = next }) ≡ answer_of outcome
         answer_whole h e =
             let size = length-servers_from count position many in
             let after = e ∙ ap (position_after count position) is in
@@ -121,16 +121,12 @@ module _ (count position m space : ℕ) where
 
   -- ---- what an answer tells
 
-  pub refused_told : {told : Sent} {q : SendRefusal} → told ≡ answer_of outcome → told ≡ Refused q → outcome ≡ refused q
-  refused_told {told = told} {q = q} d e = go outcome refl d
+  pub refused_told : {q : SendRefusal} → Err q ≡ answer_of outcome → outcome ≡ refused q
+  refused_told {q = q} e = go outcome refl e
     where
-      go : (o : SendOutcome) → outcome ≡ o → told ≡ answer_of o → outcome ≡ refused q
+      go : (o : SendOutcome) → outcome ≡ o → Err q ≡ answer_of o → outcome ≡ refused q
       go (accepted p) is d = absurd (suc-ne-zero 0 (cc))
       go (refused r) is d = let z : r ≡ q = cc in is ∙ ap refused z
-
-  -- A refusal leaves the list.
-  pub refused_done : (list : List ℕ) {told : Sent} {q : SendRefusal} → told ≡ answer_of outcome → told ≡ Refused q → list ≡ after (λ p. p.named) outcome list
-  refused_done list d e = rw (refused_told d e) refl
 
   -- What acceptance tells, where so many servers are named.
   pub record Told (named : ℕ) : Type 0 where
@@ -139,19 +135,19 @@ module _ (count position m space : ℕ) where
     pub fits : named ≤ space
     pub is : outcome ≡ accepted (period count position m)
 
-  pub accepted_told : {told : Sent} {named next : ℕ} → told ≡ answer_of outcome → told ≡ Accepted named next → Told named
-  accepted_told {told = told} {named = named} d e = go reason
+  pub accepted_told : {sent : Sent} → Ok sent ≡ answer_of outcome → Told sent.named
+  accepted_told {sent = sent} d = go reason
     where
-      never : {q : SendRefusal} → outcome ≡ refused q → Told named
+      never : {q : SendRefusal} → outcome ≡ refused q → Told sent.named
       never is = absurd (suc-ne-zero 0 (cc (ap answer_of is)))
 
-      go : Reason → Told named
+      go : Reason → Told sent.named
       go (no_messages is h) = never is
       go (out_of_range is h k) = never is
       go (short is h k l) = never is
       go (whole is h k l) =
-          let size : length (servers_from count position many) ≡ named = cc (ap answer_of is) in
-          let counted : named ≡ many = sym size ∙ length-servers_from count position many in
+          let size : length (servers_from count position many) ≡ sent.named = cc (ap answer_of is) in
+          let counted : sent.named ≡ many = sym size ∙ length-servers_from count position many in
           record { inside = k; counted = counted; fits = omega arith; is = is }
 
   -- Servers named at the front of a list that has space for them are what the outcome leaves there.

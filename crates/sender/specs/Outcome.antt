@@ -1,11 +1,10 @@
 -- Send: what it comes to, as an answer and in the list lent.
-use Rattle.std.specs.Prelude.{Bool, not, ◌&&◌, List, [], ◌∷◌, ℕ, eqb, leb, ltb, length}
+use Rattle.std.specs.Prelude.{Bool, not, ◌&&◌, List, [], ◌∷◌, ℕ, eqb, leb, ltb, length, Result, Ok, Err}
 use Rattle.outcomes.specs.Outcome.{Outcome, accepted, refused, Reason, unless, too_short}
 use Rattle.sender.specs.Period.{Period, period, named_count}
 use Rattle.sender.specs.declared.SendRefusal.{SendRefusal}
 use Rattle.sender.specs.declared.SendRefusal.TheVariants.{NoMessages, PositionOutOfRange, ListTooShort}
 use Rattle.sender.specs.declared.Sent.{Sent}
-use Rattle.sender.specs.declared.Sent.TheVariants.{Accepted, Refused}
 
 -- The most servers of a room.
 abbrev pub most_servers : ℕ
@@ -35,9 +34,9 @@ sending count position m space = unless (reasons count position m space) (period
 -- ---- What the caller sees
 
 -- The answer to an outcome: how many servers were named and the new position, or the refusal.
-abbrev pub answer_of : SendOutcome → Sent
-answer_of (accepted p) = Accepted (length p.named) p.next
-answer_of (refused refusal) = Refused refusal
+abbrev pub answer_of : SendOutcome → Result Sent SendRefusal
+answer_of (accepted p) = Ok (record { named = length p.named; next = p.next })
+answer_of (refused refusal) = Err refusal
 
 -- ---- Numbers and places
 
@@ -54,15 +53,15 @@ send_refusal_place PositionOutOfRange = 1
 send_refusal_place (ListTooShort needed) = needed
 
 -- An answer's number, 0 if accepted, and its figure: how many servers were named, or the refusal's place.
-abbrev pub sent_number : Sent → ℕ
-sent_number (Accepted named next) = 0
-sent_number (Refused refusal) = send_refusal_number refusal
+abbrev pub sent_number : Result Sent SendRefusal → ℕ
+sent_number (Ok sent) = 0
+sent_number (Err refusal) = send_refusal_number refusal
 
-abbrev pub sent_figure : Sent → ℕ
-sent_figure (Accepted named next) = named
-sent_figure (Refused refusal) = send_refusal_place refusal
+abbrev pub sent_figure : Result Sent SendRefusal → ℕ
+sent_figure (Ok sent) = sent.named
+sent_figure (Err refusal) = send_refusal_place refusal
 
 -- An answer's second value: the new position. A refusal has none, for which 0 stands here; the call writes none.
-abbrev pub sent_position : Sent → ℕ
-sent_position (Accepted named next) = next
-sent_position (Refused refusal) = 0
+abbrev pub sent_position : Result Sent SendRefusal → ℕ
+sent_position (Ok sent) = sent.next
+sent_position (Err refusal) = 0

@@ -1,39 +1,49 @@
 // Caps over a slow bus: which servers the messages of a period go to, and where the next period begins.
 #![tactic(auto)]
 
-ghost use Rattle.std.specs.Prelude.{◌≡◌, not, ◌≤◌, ◌<◌, min, length};
+ghost use Rattle.std.specs.Prelude.{◌≡◌, not, [], ◌∷◌, ◌≤◌, ◌<◌, length};
 ghost use Rattle.outcomes.specs.Outcome.{after};
 ghost use Rattle.sender.specs.Period.{following, servers_from, position_after};
-ghost use Rattle.sender.specs.Outcome.{most_servers, in_range, sending, answer_of, send_refusal_number, send_refusal_place, sent_number, sent_figure};
-ghost use Rattle.calls.specs.Call.{answered};
-ghost use Rattle.sender.specs.Call.{sent_numbers, SendCall};
+ghost use Rattle.sender.specs.Outcome.{most_servers, in_range, sending, answer_of, send_refusal_number, send_refusal_place};
+ghost use Rattle.sender.specs.Call.{SendCall};
 
-use calls::LONG_ANSWER_BYTES;
+use calls::{Figures, LONG_ANSWER_BYTES};
+use outcomes::Refusal;
 
 // A room has at most so many servers.
 const MOST_SERVERS: u64 = 512;
 
 // Why a period is turned back: m is 0; the position or the count is out of range; or the list is too short for as many servers as would
 // be named.
-#[derive(Clone, Copy)]
+#[derive(Clone, Copy, PartialEq, Eq)]
 pub enum SendRefusal {
     NoMessages,
     PositionOutOfRange,
     ListTooShort(u64),
 }
 
-// What a period comes to: how many servers were named and the new position, or why it is turned back.
-#[derive(Clone, Copy)]
-pub enum Sent {
-    Accepted(u64, u64),
-    Refused(SendRefusal),
+// A period that is sent: how many servers were named, and the new position.
+#[derive(Clone, Copy, PartialEq, Eq)]
+pub struct Sent {
+    pub named: u64,
+    pub next: u64,
 }
 
-impl SendRefusal {
+impl Figures<2> for Sent {
+    ghost figures_of = { λ sent. sent.named ∷ sent.next ∷ [] };
+
+    fn figures(self) -> [u64; 2] {
+        [self.named, self.next]
+    }
+}
+
+impl Refusal for SendRefusal {
+    ghost number_of = { send_refusal_number };
+
+    ghost place_of = { send_refusal_place };
+
     // The refusal's number.
-    pub fn number(self) -> u64
-        ensures result { result ≡ send_refusal_number self }
-    {
+    fn number(self) -> u64 {
         match self {
             SendRefusal::NoMessages => 27,
             SendRefusal::PositionOutOfRange => 28,
@@ -42,9 +52,7 @@ impl SendRefusal {
     }
 
     // The refusal's place.
-    pub fn place(self) -> u64
-        ensures result { result ≡ send_refusal_place self }
-    {
+    fn place(self) -> u64 {
         match self {
             SendRefusal::NoMessages => 0,
             SendRefusal::PositionOutOfRange => 1,
@@ -53,41 +61,15 @@ impl SendRefusal {
     }
 }
 
-impl Sent {
-    // The refusal's number, or 0.
-    pub fn number(self) -> u64
-        ensures result { result ≡ sent_number self }
-    {
-        match self {
-            Sent::Accepted(_, _) => 0,
-            Sent::Refused(refusal) => refusal.number(),
-        }
-    }
-
-    // How many servers were named, or the refusal's place.
-    pub fn figure(self) -> u64
-        ensures result { result ≡ sent_figure self }
-    {
-        match self {
-            Sent::Accepted(named, _) => named,
-            Sent::Refused(refusal) => refusal.place(),
-        }
-    }
-}
-
 // Send: the next m of `count` servers, from the position on, at the front of the list, none of them twice. Refused, it leaves the list
 // unchanged.
-pub fn send(count: u64, position: u64, m: u64, list: &mut [u32]) -> Sent
+pub fn send(count: u64, position: u64, m: u64, list: &mut [u32]) -> Result<Sent, SendRefusal>
     ensures answer { result ≡ answer_of (sending count position m (length list.old)) }
     ensures list { list.new ≡ after (λ p. p.named) (sending count position m (length list.old)) list.old }
 {
-    let sent = answer_for(count, position, m, list.len());
-    let Sent::Accepted(many, _) = sent else {
-        return sent;
-    };
-    let named = many as usize;
-    name_servers(count, position, &mut list[..named]);
-    sent
+    let sent = answer_for(count, position, m, list.len())?;
+    name_servers(count, position, &mut list[..sent.named as usize]);
+    Ok(sent)
 }
 
 // Send, called from C: the list in bytes, and the answer in a buffer of its own. Returns 1; or 0 where that buffer is too short.
@@ -114,47 +96,34 @@ fn send_by(
         return 0;
     }
     let sent = answer_for(count, position, m, list.len() / 4);
-    tell(sent, answer);
-    let Sent::Accepted(many, _) = sent else {
-        return 1;
-    };
-    let named = many as usize;
-    name_servers(count, position, &mut servers[..named]);
-    words::store(&servers[..named], list);
+    calls::tell(sent, answer);
+    if let Ok(period) = sent {
+        let named = period.named as usize;
+        name_servers(count, position, &mut servers[..named]);
+        words::store(&servers[..named], list);
+    }
     1
 }
 
-// The answer, at the front of its buffer, which has space for it.
-fn tell(sent: Sent, answer: &mut [u8])
-    requires long { 24 ≤ length answer.old }
-    ensures told { answer.new ≡ answered 3 (sent_numbers sent) answer.old }
-{
-    match sent {
-        Sent::Accepted(named, next) => {
-            calls::store_long_answer(0, named, next, answer);
-        }
-        Sent::Refused(refusal) => {
-            calls::store_answer(refusal.number(), refusal.place(), answer);
-        }
-    }
-}
-
 // The answer on a list of so many words.
-fn answer_for(count: u64, position: u64, m: u64, space: usize) -> Sent
+fn answer_for(count: u64, position: u64, m: u64, space: usize) -> Result<Sent, SendRefusal>
     ensures answer { result ≡ answer_of (sending count position m space) }
 {
     let outside = out_of_range(count, position);
     if m == 0 {
-        return Sent::Refused(SendRefusal::NoMessages);
+        return Err(SendRefusal::NoMessages);
     }
     if outside {
-        return Sent::Refused(SendRefusal::PositionOutOfRange);
+        return Err(SendRefusal::PositionOutOfRange);
     }
-    let named = least(m, count);
+    let named = m.min(count);
     if (space as u64) < named {
-        return Sent::Refused(SendRefusal::ListTooShort(named));
+        return Err(SendRefusal::ListTooShort(named));
     }
-    Sent::Accepted(named, position_after(count, position, named))
+    Ok(Sent {
+        named,
+        next: position_after(count, position, named),
+    })
 }
 
 // Whether no server has the position, or there are more servers than a room has. With a count of 0 no server has any position.
@@ -186,8 +155,8 @@ fn name_servers(count: u64, position: u64, list: &mut [u32])
     ensures list { list.new ≡ servers_from count position (length list.old) }
 {
     let mut server = position;
-    for i in 0..list.len() {
-        list[i] = server as u32;
+    for entry in list.iter_mut() {
+        *entry = server as u32;
         server = follow(count, server);
     }
 }
@@ -198,11 +167,4 @@ fn follow(count: u64, server: u64) -> u64
     ensures result { (result ≡ following count server) × (result < count) }
 {
     if server + 1 < count { server + 1 } else { 0 }
-}
-
-// The lesser of two counts.
-fn least(a: u64, b: u64) -> u64
-    ensures result { result ≡ min a b }
-{
-    if a < b { a } else { b }
 }

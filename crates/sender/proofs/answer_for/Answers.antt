@@ -28,7 +28,7 @@ returns-then-space-named c =
     record {
       answer =
           let args = c.args in
-          answer_short args.count args.position args.m args.space (omega arith) inside c.least-named.ensures.result (omega arith);
+          answer_short args.count args.position args.m args.space (omega arith) inside c.min-named.ensures (omega arith);
     }
 
 pub position_after-requires : goal.position_after-requires
@@ -46,5 +46,5 @@ returns c =
     record {
       answer =
           let args = c.args in
-          answer_whole args.count args.position args.m args.space (omega arith) inside c.least-named.ensures.result (omega arith) c.position_after.ensures.result;
+          answer_whole args.count args.position args.m args.space (omega arith) inside c.min-named.ensures (omega arith) c.position_after.ensures.result;
     }

@@ -1,47 +1,27 @@
 -- `send` meets its contract: the answer decides, and servers are named only where it accepts.
-use mathlib.Core.Path.{refl, sym, ◌∙◌}
+use mathlib.Core.Path.{refl, sym}
 use lib.ListN.{length}
 use lib.Seq.{length-take-le}
-use Rattle.sender.proofs.Outcomes.{Told, refused_done, accepted_told, named_done}
+use Rattle.sender.proofs.Outcomes.{Told, accepted_told, named_done}
 use Rattle.sender.proofs.send.Goals as goal
+use Rattle.sender.proofs.send.Goals.{In_ok-sent}
 
-pub returns-in_default : goal.returns-in_default
-returns-in_default c =
-    record {
-      answer = c.answer_for-sent.ensures.answer;
-      list = refused_done c.args.count c.args.position c.args.m _ c.args.list.now c.answer_for-sent.ensures.answer c.in_default.is;
-    }
+-- What the answer says of the input, where it accepts.
+told : (c : In_ok-sent) → Told c.args.count c.args.position c.args.m (length c.args.list.now) c.in_ok-sent.sent.named
+told c = accepted_told _ _ _ _ c.in_ok-sent.ensures.answer
 
 pub slice_bounds-name_servers-end : goal.slice_bounds-name_servers-end
-slice_bounds-name_servers-end c =
-    let accepting : Type 0 = let args = c.args in
-    Told args.count args.position args.m (length args.list.now) c.in-Accepted.many in
-    let told : accepting = accepted_told _ _ _ _ c.answer_for-sent.ensures.answer c.in-Accepted.is in
-    told.fits
+slice_bounds-name_servers-end c = (told (goal.at.slice_bounds-name_servers-end c).In_ok-sent).fits
 
 pub slice_bounds-name_servers-end-2 : goal.slice_bounds-name_servers-end-2
-slice_bounds-name_servers-end-2 c =
-    let accepting : Type 0 = let args = c.args in
-    Told args.count args.position args.m (length args.list.now) c.in-Accepted.many in
-    let told : accepting = accepted_told _ _ _ _ c.answer_for-sent.ensures.answer c.in-Accepted.is in
-    sym (length-take-le _ _ told.fits)
+slice_bounds-name_servers-end-2 c = sym (length-take-le _ _ (told (goal.at.slice_bounds-name_servers-end-2 c).In_ok-sent).fits)
 
 pub name_servers-requires : goal.name_servers-requires
 name_servers-requires c =
-    let accepting : Type 0 = let args = c.args in
-    Told args.count args.position args.m (length args.list.now) c.in-Accepted.many in
-    let told : accepting = accepted_told _ _ _ _ c.answer_for-sent.ensures.answer c.in-Accepted.is in
-    record {
-      position_bounded = told.inside.below;
-      count_bounded = told.inside.most;
-    }
+    let told = told (goal.at.name_servers-requires c).In_ok-sent in
+    record { position_bounded = told.inside.below; count_bounded = told.inside.most }
 
-pub returns : goal.returns
-returns c =
-    let accepting : Type 0 = let args = c.args in
-    Told args.count args.position args.m (length args.list.now) c.in-Accepted.many in
-    let told : accepting = accepted_told _ _ _ _ c.answer_for-sent.ensures.answer c.in-Accepted.is in
-    record {
-      answer = sym c.in-Accepted.is ∙ c.answer_for-sent.ensures.answer;
-      list = named_done c.args.count c.args.position c.args.m _ c.args.list.now refl told c.name_servers.ensures.list;
-    }
+pub returns-clause-list : goal.returns-clause-list
+returns-clause-list c =
+    let told = told (goal.at.returns-clause-list c).In_ok-sent in
+    named_done c.args.count c.args.position c.args.m _ c.args.list.now refl told c.name_servers.ensures.list

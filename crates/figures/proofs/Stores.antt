@@ -7,7 +7,7 @@ use Prim.Native.Nat.{ℕ, zero, suc, ◌+◌, ◌≤◌, ◌<◌, min}
 use native.Mathlib.Omega.{arith}
 use native.Mathlib.Numerals.{add-one}
 use lib.ListN.{length, get_or, set, take, drop}
-use lib.Seq.{sets, take-suc, take-nil, length-take-le, drop-nil}
+use lib.Seq.{sets, take-suc, take-nil, length-take-le, drop-nil, take_all}
 
 module _ {ℓ} {A : Type ℓ} where
   -- ---- a run of stores
@@ -68,11 +68,26 @@ module _ {ℓ} {A : Type ℓ} where
   sets-take (suc n) (x ∷ l) (a ∷ t) h =
       sets_cons a l 0 (take n t) ∙ ap (λ (r : List A). a ∷ r) (sets-take n l t (omega arith)) ∙ sym (sets_cons a l 0 t)
 
-  -- A turn of a loop that copies t to the front of l: one more store, one more element of t.
+  -- A turn of a loop that copies t to a place of l: one more store, one more element of t.
+  pub sets_turn_at : (l t : List A) (at i : ℕ) (d : A) → i < length t → set (sets l at (take i t)) (at + i) (get_or t i d) ≡ sets l at (take (i + 1) t)
+  sets_turn_at l t at i d h =
+      let e : at + length (take i t) ≡ at + i = omega (arith, length-take-le i t (omega arith)) in
+      sym (rw (add-one, take-suc t i d, sets-append, e))
+
+  -- And to the front of l.
   pub sets_turn : (l t : List A) (i : ℕ) (d : A) → i < length t → set (sets l 0 (take i t)) i (get_or t i d) ≡ sets l 0 (take (i + 1) t)
   sets_turn l t i d h =
-      let e : 0 + length (take i t) ≡ i = omega (arith, length-take-le i t (omega arith)) in
-      sym (rw (add-one, take-suc t i d, sets-append, e))
+      let e : 0 + i ≡ i = omega arith in
+      rw e at (sets_turn_at l t 0 i d h)
+
+  -- A run into the first elements, as many as there are of both, is that run into the list.
+  pub sets_in_front : (n : ℕ) (l t : List A) → n ≡ min (length t) (length l) → sets (take n l) 0 (take n t) ++ drop n l ≡ sets l 0 t
+  sets_in_front n l t e =
+      let few = length-take-le n l (omega arith) in
+      let many = length-take-le n t (omega arith) in
+      let whole : take (length l) (take n t) ≡ take n t = take_all (length l) (take n t) (omega arith) in
+      ap (λ (r : List A). r ++ drop n l) (sets_all (take n l) (take n t) (omega arith))
+      ∙ sym (sym (sets-take n l t (omega arith)) ∙ sets-front l (take n t) ∙ rw (whole, many) refl)
 
   -- ---- a front
 

@@ -1,13 +1,14 @@
 -- Laws of words and numbers as bytes.
 use mathlib.Core.Path.{◌≡◌, refl, sym, ap, ◌∙◌}
 use mathlib.Core.List.{List, [], ◌∷◌, ◌++◌, append_assoc, append-nil}
-use Prim.Native.Nat.{ℕ, zero, suc, ◌+◌, ◌-◌, ◌*◌, ◌/◌, ◌%◌, ◌^◌, ◌≤◌, ◌<◌, min}
+use Prim.Native.Nat.{ℕ, zero, suc, ◌+◌, ◌*◌, ◌/◌, ◌%◌, ◌^◌, ◌≤◌, ◌<◌, min}
 use native.Mathlib.Omega.{arith}
 use native.Mathlib.Numerals.{add-one}
 use native.Mathlib.Nat.{suc-add}
 use borrow.Author.Tests.{le-leb, lt-leb}
-use lib.ListN.{length, get_or, set, take}
+use lib.ListN.{length, get_or, take}
 use lib.Seq.{sets, take-suc, length-take-le}
+use Rattle.std.specs.Int.{to_le_bytes, w32, w64}
 use Rattle.figures.specs.Bounds.{AllBelow}
 use Rattle.words.specs.Bytes.{little_endian, word, word_at, words_of, bytes_of, number_stored}
 use Rattle.figures.proofs.Stores.{sets-append, take-sets, take_min}
@@ -68,16 +69,27 @@ unfolding words_of bytes_of little_endian
 words_of-bytes_of [] h = refl
 words_of-bytes_of (w ∷ words) h = rw (word-little_endian w (h 0), words_of-bytes_of words (λ i. h (suc i)))
 
--- ---- turns of loops
+-- ---- the library's bytes of a number
 
--- A turn of a loop that puts the k bytes of a number: the low byte of what is left, and the bytes above it still to come.
-pub sets-little_endian_turn : (bytes : List ℕ) (at i k v : ℕ) → i < k
-    → sets (set bytes (at + i) (v % 256)) (at + (i + 1)) (little_endian (k - (i + 1)) (v / 256)) ≡ sets bytes (at + i) (little_endian (k - i) v)
+pub to_le_bytes_4 : (n : ℕ) → to_le_bytes w32 n ≡ little_endian 4 n
 unfolding little_endian
-sets-little_endian_turn bytes at i k v h =
-    let left : k - i ≡ suc (k - (i + 1)) = omega arith in
-    let next : at + (i + 1) ≡ suc (at + i) = omega arith in
-    rw (left, next)
+to_le_bytes_4 n =
+    let two : n / 256 ^ 2 ≡ n / 256 / 256 = omega arith in
+    let three : n / 256 ^ 3 ≡ n / 256 / 256 / 256 = omega arith in
+    rw (two, three) refl
+
+pub to_le_bytes_8 : (n : ℕ) → to_le_bytes w64 n ≡ little_endian 8 n
+unfolding little_endian
+to_le_bytes_8 n =
+    let two : n / 256 ^ 2 ≡ n / 256 / 256 = omega arith in
+    let three : n / 256 ^ 3 ≡ n / 256 / 256 / 256 = omega arith in
+    let four : n / 256 ^ 4 ≡ n / 256 / 256 / 256 / 256 = omega arith in
+    let five : n / 256 ^ 5 ≡ n / 256 / 256 / 256 / 256 / 256 = omega arith in
+    let six : n / 256 ^ 6 ≡ n / 256 / 256 / 256 / 256 / 256 / 256 = omega arith in
+    let seven : n / 256 ^ 7 ≡ n / 256 / 256 / 256 / 256 / 256 / 256 / 256 = omega arith in
+    rw (two, three, four, five, six, seven) refl
+
+-- ---- turns of loops
 
 pub bytes_of-append : (v w : List ℕ) → bytes_of (v ++ w) ≡ bytes_of v ++ bytes_of w
 unfolding bytes_of

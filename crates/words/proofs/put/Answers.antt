@@ -1,28 +1,13 @@
--- `words::put` meets its contract: the bytes still to come, stored where they go, always make up the whole number.
+-- `words::put` meets its contract: a turn puts one more byte behind those that are put.
+use mathlib.Core.Path.{ap, ◌∙◌}
+use mathlib.Core.List.{List}
+use Prim.Native.Nat.{ℕ, ◌+◌}
 use native.Mathlib.Omega.{arith}
-use Prim.Native.Nat.{◌+◌, ◌-◌}
-use mathlib.Core.Path.{◌≡◌, refl}
-use lib.ListN.{length-set}
-use Rattle.words.specs.Bytes.{little_endian}
-use Rattle.words.proofs.Bytes.{sets-little_endian_turn}
+use lib.ListN.{get_or, set}
+use Rattle.figures.proofs.Stores.{sets_turn_at}
 use Rattle.words.proofs.put.Goals as goal
-
-pub loop-i-init : goal.loop-i-init
-loop-i-init c =
-    let start : c.args.at + 0 ≡ c.args.at = omega arith in
-    let left : c.args.count - 0 ≡ c.args.count = omega arith in
-    (omega arith, rw (start, left), refl)
 
 pub loop-i-preserved : goal.loop-i-preserved
 loop-i-preserved c =
-    let turn = sets-little_endian_turn c.loop-i.bytes c.args.at c.loop-i.i c.args.count c.loop-i.rest (omega arith) in
-    (omega arith, (cc), simp length-set (omega arith))
-
-pub returns : goal.returns
-unfolding little_endian
-returns c =
-    record {
-      stored =
-          let none : c.args.count - c.loop-i.i ≡ 0 = omega arith in
-          rw none at c.loop-i.invariant.1;
-    }
+    ap (λ (l : List ℕ). set l (c.args.at + c.loop-i.i) (get_or c.args.from.now c.loop-i.i 0)) c.loop-i.invariant
+    ∙ sets_turn_at c.args.bytes.now c.args.from.now c.args.at c.loop-i.i 0 (omega arith)

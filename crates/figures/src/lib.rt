@@ -79,27 +79,27 @@ pub fn over(a: u64, b: u64) -> u64
 }
 
 // The words of `from` at the front of `to`, as many as fit.
+// By hand: the chips' build takes no `copy_from_slice`, which makes numbers of pointers (chips/portable.awk).
 pub fn copy(from: &[u32], to: &mut [u32])
     ensures copied { to.new ≡ sets to.old 0 from.now }
 {
-    let count = counts::least(from.len(), to.len());
-    for i in 0..count {
-        to[i] = from[i];
+    let count = from.len().min(to.len());
+    for (i, word) in from[..count].iter().enumerate() {
+        to[i] = *word;
     }
 }
 
 // The index of the first word that is not below a bound; the count of words, if each is.
+// By hand: the chips' build takes no `position`, whose iterator holds pointers in pairs (chips/portable.awk).
 pub fn first_not_below(bound: u32, list: &[u32]) -> usize
     ensures result { result ≡ first_not_below bound list.now }
 {
-    let mut index = 0;
-    while index < list.len() {
-        if bound <= list[index] {
-            return index;
+    for (i, word) in list.iter().enumerate() {
+        if bound <= *word {
+            return i;
         }
-        index += 1;
     }
-    index
+    list.len()
 }
 
 // A figure added to the one that stands on a node, by the node's number; 0 is no node.

@@ -3,26 +3,12 @@
 // Plan: no operation stands here.
 #![tactic(auto)]
 
-ghost use Rattle.std.specs.Prelude.{◌≡◌, ◌&&◌, ◌*◌, ◌/◌, ◌^◌, ◌≤◌, ◌<◌, max, eqb};
+ghost use Rattle.std.specs.Prelude.{◌≡◌, ◌&&◌, ◌*◌, ◌/◌, ◌^◌, ◌≤◌, ◌<◌, eqb};
 ghost use Rattle.splits.specs.Ways.{quotient_in};
 ghost use Rattle.splits.specs.Serving.{MayServe, HasServed};
 
-use figures::{narrow, wide};
-
 // An amount and a total weight below this have a product below 2^32.
 const SHORT: u64 = 65_536;
-
-fn greater(a: u64, b: u64) -> u64
-    ensures result { result ≡ max a b }
-{
-    if a < b { b } else { a }
-}
-
-fn short_greater(a: u32, b: u32) -> u32
-    ensures result { result ≡ max a b }
-{
-    if a < b { b } else { a }
-}
 
 // The short way, which has no number of 64 bits: floor(amount × upto / whole). The amount may be above the whole. Where the whole
 // is 0, so is the running sum: 0 is divided by 1.
@@ -30,7 +16,7 @@ fn short_quotient(amount: u32, upto: u32, whole: u32) -> u32
     requires short { (amount < 65536) × (whole < 65536) × (upto ≤ whole) }
     ensures result { result ≡ quotient_in 32 amount upto whole }
 {
-    amount * upto / short_greater(whole, 1)
+    amount * upto / whole.max(1)
 }
 
 // The long way: the same wherever the product fits in 64 bits.
@@ -38,7 +24,7 @@ fn long_quotient(amount: u32, upto: u64, whole: u64) -> u32
     requires in_range { (upto ≤ whole) × (amount * whole < 2 ^ 64) }
     ensures result { result ≡ quotient_in 64 amount upto whole }
 {
-    narrow(wide(amount) * upto / greater(whole, 1))
+    (u64::from(amount) * upto / whole.max(1)) as u32
 }
 
 // What the children up to a running sum of the weights get together: floor(amount × upto / whole), the short way where it serves.
@@ -47,8 +33,8 @@ pub fn quotient(amount: u32, upto: u64, whole: u64) -> u32
     requires in_range { (upto ≤ whole) × (amount * whole < 2 ^ 64) }
     ensures result { result ≡ amount * upto / whole }
 {
-    if greater(wide(amount), whole) < SHORT {
-        return short_quotient(amount, narrow(upto), narrow(whole));
+    if u64::from(amount).max(whole) < SHORT {
+        return short_quotient(amount, upto as u32, whole as u32);
     }
     long_quotient(amount, upto, whole)
 }

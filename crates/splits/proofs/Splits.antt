@@ -3,8 +3,8 @@ use mathlib.Core.Path.{◌≡◌, sym, ap, ◌∙◌}
 use mathlib.Core.Logic.{◌⊎◌, inl, inr}
 use mathlib.Core.Bool.{Bool, true, false}
 use mathlib.Core.List.{List, [], ◌∷◌}
-use Prim.Native.Nat.{ℕ, zero, suc, ◌+◌, ◌*◌, ◌-◌, ◌/◌, ◌≤◌, ◌<◌, max}
-use native.Mathlib.Nat.{le_trans, le_of_eq, mul-le-mul_left, mul-zero, zero-div, div-zero, mul-div_cancel, add-mul-div_left, eq-zero-or-pos, mul-le-mul_right, le-div_iff_mul-le, div-mul-le_self, max-eq_left, add-zero, add_assoc, zero-add}
+use Prim.Native.Nat.{ℕ, zero, suc, ◌+◌, ◌*◌, ◌-◌, ◌/◌, ◌≤◌, ◌<◌}
+use native.Mathlib.Nat.{le_trans, mul-zero, zero-div, div-zero, mul-div_cancel, add-mul-div_left, eq-zero-or-pos, mul-le-mul_right, le-div_iff_mul-le, div-mul-le_self, add-zero, add_assoc, zero-add}
 use native.Mathlib.Omega.{arith}
 use Rattle.figures.specs.Figures.{total, at, sum_of}
 use Rattle.figures.specs.Sums.{on, sum}
@@ -80,22 +80,6 @@ part_whole x e h = go (eq-zero-or-pos e)
 -- Nothing is dealt where nothing was served.
 pub quotient_none : (x u e : ℕ) → u ≡ 0 → x * u / e ≡ 0
 quotient_none x u e z = ap (λ (y : ℕ). x * y / e) z ∙ ap (λ (y : ℕ). y / e) (mul-zero x) ∙ zero-div e
-
--- A quotient of an amount by a sum of the weights is no more than the amount.
-pub quotient_most : (x u e : ℕ) → u ≤ e → x * u / e ≤ x
-quotient_most x u e h = go (eq-zero-or-pos e)
-  where
-    go : (e ≡ 0) ⊎ (0 < e) → x * u / e ≤ x
-    go (inl z) = omega (arith, quotient_none x u e (omega arith))
-    go (inr q) = le_trans (div_mono (x * u) (x * e) e (mul-le-mul_left x h)) (le_of_eq (mul-div_cancel x q))
-
--- Where the weights sum to 0, 1 may stand for their sum: what is divided is 0.
-pub quotient_by : (x u e : ℕ) → u ≤ e → x * u / max e 1 ≡ x * u / e
-quotient_by x u e h = go (eq-zero-or-pos e)
-  where
-    go : (e ≡ 0) ⊎ (0 < e) → x * u / max e 1 ≡ x * u / e
-    go (inl z) = quotient_none x u (max e 1) (omega arith) ∙ sym (quotient_none x u e (omega arith))
-    go (inr q) = ap (λ (y : ℕ). x * u / y) (max-eq_left q)
 
 -- ---- The split over any list of weights
 

@@ -14,32 +14,23 @@ use figures::first_not_below;
 pub mod parts;
 
 // Why bytes are no number: four bytes that all say another follows; a last byte of 0 after others; the bytes end inside.
-#[derive(Clone, Copy)]
+#[derive(Clone, Copy, Debug, PartialEq, Eq)]
 pub enum Fault {
     TooLong,
     NotShortest,
     CutShort,
 }
 
-// A number and the place after it, or its fault and the place where it starts.
-#[derive(Clone, Copy)]
-pub enum Decoded {
-    Number(u32, usize),
-    Refused(Fault, usize),
+// A bad number: its fault, and the place where it starts.
+#[derive(Clone, Copy, Debug, PartialEq, Eq)]
+pub struct BadNumber {
+    pub fault: Fault,
+    pub place: usize,
 }
 
-// How many numbers a sheet has, or the first fault in it and the place where that number starts.
-#[derive(Clone, Copy)]
-pub enum JudgedSheet {
-    Words(usize),
-    Refused(Fault, usize),
-}
-
-// What became of words to be written: the count of bytes written, the index of the first word that has no form, or the
-// count of bytes needed.
-#[derive(Clone, Copy)]
-pub enum Written {
-    Bytes(usize),
+// Why words are not written: the index of the first word that has no form, or the count of bytes needed.
+#[derive(Clone, Copy, Debug, PartialEq, Eq)]
+pub enum Unwritten {
     TooLarge(usize),
     TooShort(usize),
 }
@@ -54,16 +45,16 @@ fn wide(byte: u8) -> u32
     byte as u32
 }
 
-// The number that starts at a place of the sheet, byte by byte.
-fn decode_bytes(sheet: &[u8], at: usize) -> Decoded
+// The number that starts at a place of the sheet, byte by byte, and the place after it.
+fn decode_bytes(sheet: &[u8], at: usize) -> Result<(u32, usize), BadNumber>
     ensures result { result ≡ decoded at (number (drop at sheet.now)) }
 {
     if sheet.len() <= at {
-        return Decoded::Refused(Fault::CutShort, at);
+        return Err(BadNumber { fault: Fault::CutShort, place: at });
     }
     let first = wide(sheet[at]);
     if first < 128 {
-        return Decoded::Number(first, at + 1);
+        return Ok((first, at + 1));
     }
     let mut value: u32 = first - 128;
     let mut unit: u32 = 128;
@@ -71,26 +62,26 @@ fn decode_bytes(sheet: &[u8], at: usize) -> Decoded
     let mut left: u32 = 3;
     while 0 < left {
         if sheet.len() <= next {
-            return Decoded::Refused(Fault::CutShort, at);
+            return Err(BadNumber { fault: Fault::CutShort, place: at });
         }
         let byte = wide(sheet[next]);
         if byte == 0 {
-            return Decoded::Refused(Fault::NotShortest, at);
+            return Err(BadNumber { fault: Fault::NotShortest, place: at });
         }
         if byte < 128 {
-            return Decoded::Number(value + unit * byte, next + 1);
+            return Ok((value + unit * byte, next + 1));
         }
         value += unit * (byte - 128);
         unit *= 128;
         next += 1;
         left -= 1;
     }
-    Decoded::Refused(Fault::TooLong, at)
+    Err(BadNumber { fault: Fault::TooLong, place: at })
 }
 
-// The number that starts at a place of the sheet. If it has one or two bytes, and the sheet has two from there on, it is read
+// The number that starts at a place of the sheet, and the place after it. If it has one or two bytes, and the sheet has two from there on, it is read
 // without a branch on its size: the processor would often predict that wrongly.
-pub fn decode(sheet: &[u8], at: usize) -> Decoded
+pub fn decode(sheet: &[u8], at: usize) -> Result<(u32, usize), BadNumber>
     ensures result { result ≡ decoded at (number (drop at sheet.now)) }
 {
     if at < sheet.len() && at + 1 < sheet.len() {
@@ -102,7 +93,7 @@ pub fn decode(sheet: &[u8], at: usize) -> Decoded
         if another <= second && second < 128 {
             let value = first % 128 + 128 * second;
             let next = at + 1 + another as usize;
-            return Decoded::Number(value, next);
+            return Ok((value, next));
         }
     }
     decode_bytes(sheet, at)
@@ -201,21 +192,21 @@ fn put_all(words: &[u32], sheet: &mut [u8]) -> usize
     at
 }
 
-// Writes words as numbers to the front of a sheet. Refused, it leaves the sheet unchanged.
-pub fn encode_sheet(words: &[u32], sheet: &mut [u8]) -> Written
+// Writes words as numbers to the front of a sheet, and gives the count of bytes. Refused, it leaves the sheet unchanged.
+pub fn encode_sheet(words: &[u32], sheet: &mut [u8]) -> Result<usize, Unwritten>
     ensures result { result ≡ written words.now (length sheet.old) }
     ensures sheet { sheet.new ≡ after_encode_sheet result words.now sheet.old }
 {
     let large = first_not_below(FORM_LIMIT, words);
     if large < words.len() {
-        return Written::TooLarge(large);
+        return Err(Unwritten::TooLarge(large));
     }
     // No form is longer than four bytes, so only a sheet with fewer a word can be too short.
     if sheet.len() / 4 < words.len() {
         let needed = total_size(words);
         if sheet.len() < needed {
-            return Written::TooShort(needed);
+            return Err(Unwritten::TooShort(needed));
         }
     }
-    Written::Bytes(put_all(words, sheet))
+    Ok(put_all(words, sheet))
 }

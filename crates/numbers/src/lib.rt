@@ -50,7 +50,10 @@ fn decode_bytes(sheet: &[u8], at: usize) -> Result<(u32, usize), BadNumber>
     ensures result { result ≡ decoded at (number (drop at sheet.now)) }
 {
     if sheet.len() <= at {
-        return Err(BadNumber { fault: Fault::CutShort, place: at });
+        return Err(BadNumber {
+            fault: Fault::CutShort,
+            place: at,
+        });
     }
     let first = wide(sheet[at]);
     if first < 128 {
@@ -62,11 +65,17 @@ fn decode_bytes(sheet: &[u8], at: usize) -> Result<(u32, usize), BadNumber>
     let mut left: u32 = 3;
     while 0 < left {
         if sheet.len() <= next {
-            return Err(BadNumber { fault: Fault::CutShort, place: at });
+            return Err(BadNumber {
+                fault: Fault::CutShort,
+                place: at,
+            });
         }
         let byte = wide(sheet[next]);
         if byte == 0 {
-            return Err(BadNumber { fault: Fault::NotShortest, place: at });
+            return Err(BadNumber {
+                fault: Fault::NotShortest,
+                place: at,
+            });
         }
         if byte < 128 {
             return Ok((value + unit * byte, next + 1));
@@ -76,7 +85,10 @@ fn decode_bytes(sheet: &[u8], at: usize) -> Result<(u32, usize), BadNumber>
         next += 1;
         left -= 1;
     }
-    Err(BadNumber { fault: Fault::TooLong, place: at })
+    Err(BadNumber {
+        fault: Fault::TooLong,
+        place: at,
+    })
 }
 
 // The number that starts at a place of the sheet, and the place after it. If it has one or two bytes, and the sheet has two from there on, it is read

@@ -8,9 +8,10 @@ ghost use Rattle.rooms.specs.Part.{good};
 ghost use Rattle.rooms.specs.Limits.{checked, node_lows};
 ghost use Rattle.rooms.specs.Table.{Room, most_nodes, most_words, room_cords};
 ghost use Rattle.rooms.specs.Told.{told};
-ghost use Rattle.rooms.specs.Outcome.{sheet_refusal_number, sheet_refusal_place, sheet_number, sheet_figure, answer_of, if_good, reading, writing};
+ghost use Rattle.rooms.specs.declared.SheetRefusal.TheVariants.{BadNumber};
+ghost use Rattle.rooms.specs.Outcome.{sheet_refusal_number, sheet_refusal_place, unwritten_refusal, answer_of, if_good, reading, writing};
 
-use numbers::{Fault, JudgedSheet, Written};
+use numbers::{BadNumber, Fault, Unwritten};
 
 pub mod form;
 pub mod limits;
@@ -20,7 +21,7 @@ pub mod parts;
 mod table;
 
 // Why an input is turned back, and where: a byte or a word by its place, a node by its number, or a length.
-#[derive(Clone, Copy)]
+#[derive(Clone, Copy, Debug, PartialEq, Eq)]
 pub enum SheetRefusal {
     BadNumber(Fault, usize),
     WordMissing(usize),
@@ -30,20 +31,6 @@ pub enum SheetRefusal {
     WordsLeftOver(usize),
     LowsAboveLimit(usize),
     OutputTooShort(usize),
-}
-
-// What a check tells of a part of a table: a figure of it and the index of the next word, or its refusal.
-#[derive(Clone, Copy)]
-pub enum Checked {
-    Good(u32, usize),
-    Refused(SheetRefusal),
-}
-
-// The answer of Read and Write: accepted with the count written, or refused.
-#[derive(Clone, Copy)]
-pub enum SheetAnswer {
-    Accepted(usize),
-    Refused(SheetRefusal),
 }
 
 // The newest version of the sheet (specs/Table.antt).
@@ -114,24 +101,22 @@ impl SheetRefusal {
     }
 }
 
-impl SheetAnswer {
-    // The refusal's number, or 0.
-    pub fn number(self) -> u64
-        ensures result { result ≡ sheet_number self }
-    {
-        match self {
-            SheetAnswer::Accepted(_) => 0,
-            SheetAnswer::Refused(refusal) => refusal.number(),
-        }
-    }
+impl From<BadNumber> for SheetRefusal {
+    ghost from_gives = { λ bad refusal. refusal ≡ BadNumber bad.fault bad.place };
 
-    // The count written, or the refusal's place.
-    pub fn figure(self) -> usize
-        ensures result { result ≡ sheet_figure self }
-    {
-        match self {
-            SheetAnswer::Accepted(count) => count,
-            SheetAnswer::Refused(refusal) => refusal.place(),
+    fn from(bad: BadNumber) -> SheetRefusal {
+        SheetRefusal::BadNumber(bad.fault, bad.place)
+    }
+}
+
+impl From<Unwritten> for SheetRefusal {
+    ghost from_gives = { λ why refusal. refusal ≡ unwritten_refusal why };
+
+    fn from(why: Unwritten) -> SheetRefusal {
+        match why {
+            Unwritten::TooShort(needed) => SheetRefusal::OutputTooShort(needed),
+            // No word of a good table is too large to be written.
+            Unwritten::TooLarge(index) => SheetRefusal::WordOutOfRange(index),
         }
     }
 }
@@ -143,25 +128,22 @@ fn clear(lows: &mut [u64; 512])
     *lows = [0u64; 512];
 }
 
-// The whole check of a table. `lows` come as zeros; a good table leaves those beneath each node there, a refused one may leave anything.
-fn check_summing(table: &[u32], lows: &mut [u64; 512]) -> Checked
+// The whole check of a table: the count of its cords and its length, or its refusal. `lows` come as zeros; a good table leaves those beneath each node there, a refused one may leave anything.
+fn check_summing(table: &[u32], lows: &mut [u64; 512]) -> Result<(u32, usize), SheetRefusal>
     requires zeros { lows.old ≡ replicate most_nodes 0 }
     ensures result { result ≡ told room_cords (checked table.now 0) }
     ensures lows { (q : Room) (j : ℕ) → checked table.now 0 ≡ good q j → lows.new ≡ node_lows q }
 {
-    let words = table::check_table(table, lows);
-    let Checked::Good(cords, length) = words else {
-        return words;
-    };
+    let (cords, length) = table::check_table(table, lows)?;
     let node = lows::overloaded(table, lows);
     if node != 0 {
-        return Checked::Refused(SheetRefusal::LowsAboveLimit(node));
+        return Err(SheetRefusal::LowsAboveLimit(node));
     }
-    Checked::Good(cords, length)
+    Ok((cords, length))
 }
 
 // The whole check of a table: the count of its cords and its length, or its refusal.
-pub fn check(table: &[u32]) -> Checked
+pub fn check(table: &[u32]) -> Result<(u32, usize), SheetRefusal>
     ensures result { result ≡ told room_cords (checked table.now 0) }
 {
     let mut lows = [0u64; 512];
@@ -169,37 +151,31 @@ pub fn check(table: &[u32]) -> Checked
 }
 
 // The answer on a table whose words are to go to an output of `space` words.
-fn answer_for(table: &[u32], space: usize) -> SheetAnswer
+fn answer_for(table: &[u32], space: usize) -> Result<usize, SheetRefusal>
     ensures result { result ≡ answer_of (if_good (checked table.now 0) table.now space) }
 {
-    let checked = check(table);
-    if let Checked::Refused(refusal) = checked {
-        return SheetAnswer::Refused(refusal);
-    }
+    check(table)?;
     let count = table.len();
     if space < count {
-        return SheetAnswer::Refused(SheetRefusal::OutputTooShort(count));
+        return Err(SheetRefusal::OutputTooShort(count));
     }
-    SheetAnswer::Accepted(count)
+    Ok(count)
 }
 
 // Read by way of a list of its own, which takes the words until all is checked.
-fn read_by(sheet: &[u8], words: &mut [u32], table: &mut [u32]) -> SheetAnswer
+fn read_by(sheet: &[u8], words: &mut [u32], table: &mut [u32]) -> Result<usize, SheetRefusal>
     requires space { suc most_words ≤ length words.old }
     ensures result { result ≡ answer_of (reading sheet.now (length table.old)) }
     ensures table { table.new ≡ after (λ words. words) (reading sheet.now (length table.old))
         table.old }
 {
-    let read = parts::read_words(sheet, words, table.len());
-    let SheetAnswer::Accepted(count) = read else {
-        return read;
-    };
+    let count = parts::read_words(sheet, words, table.len())?;
     figures::copy(&words[..count], table);
-    read
+    Ok(count)
 }
 
 // Read: the words of a sheet, at the front of the table. Refused, it leaves the table unchanged.
-pub fn read(sheet: &[u8], table: &mut [u32]) -> SheetAnswer
+pub fn read(sheet: &[u8], table: &mut [u32]) -> Result<usize, SheetRefusal>
     ensures result { result ≡ answer_of (reading sheet.now (length table.old)) }
     ensures table { table.new ≡ after (λ words. words) (reading sheet.now (length table.old))
         table.old }
@@ -209,19 +185,12 @@ pub fn read(sheet: &[u8], table: &mut [u32]) -> SheetAnswer
 }
 
 // Write: the words of a table as numbers, at the front of the sheet. Refused, it leaves the sheet unchanged.
-pub fn write(table: &[u32], sheet: &mut [u8]) -> SheetAnswer
+pub fn write(table: &[u32], sheet: &mut [u8]) -> Result<usize, SheetRefusal>
     ensures result { result ≡ answer_of (writing table.now (length sheet.old)) }
     ensures sheet { sheet.new ≡ after (λ bytes. bytes) (writing table.now (length sheet.old))
         sheet.old }
 {
-    let checked = check(table);
-    if let Checked::Refused(refusal) = checked {
-        return SheetAnswer::Refused(refusal);
-    }
-    match numbers::encode_sheet(table, sheet) {
-        Written::Bytes(count) => SheetAnswer::Accepted(count),
-        Written::TooShort(needed) => SheetAnswer::Refused(SheetRefusal::OutputTooShort(needed)),
-        // No word of a good table is too large to be written.
-        Written::TooLarge(index) => SheetAnswer::Refused(SheetRefusal::WordOutOfRange(index)),
-    }
+    check(table)?;
+    let count = numbers::encode_sheet(table, sheet)?;
+    Ok(count)
 }

@@ -3,7 +3,6 @@
 
 ghost use Rattle.std.specs.Prelude.{◌≡◌, ℕ, suc, ◌≤◌, length, replicate};
 ghost use Rattle.outcomes.specs.Outcome.{after};
-ghost use Rattle.numbers.specs.Number.{fault_number};
 ghost use Rattle.rooms.specs.Part.{good};
 ghost use Rattle.rooms.specs.Limits.{checked, node_lows};
 ghost use Rattle.rooms.specs.Table.{Room, most_nodes, most_words, room_cords};
@@ -12,6 +11,7 @@ ghost use Rattle.rooms.specs.declared.SheetRefusal.TheVariants.{BadNumber};
 ghost use Rattle.rooms.specs.Outcome.{sheet_refusal_number, sheet_refusal_place, unwritten_refusal, answer_of, if_good, reading, writing};
 
 use numbers::{BadNumber, Fault, Unwritten};
+use outcomes::Refusal;
 
 pub mod form;
 pub mod limits;
@@ -56,24 +56,17 @@ pub const MOST_WORDS: usize = 2 + 3 * MOST_NODES + 1 + 4 * MOST_SERVERS + 2 * MO
 // One word more than a table may have: so many decide every check.
 pub const DECIDING_WORDS: usize = MOST_WORDS + 1;
 
-// The number of a fault.
-fn fault_number(fault: Fault) -> u64
-    ensures result { result ≡ fault_number fault }
-{
-    match fault {
-        Fault::TooLong => 1,
-        Fault::NotShortest => 2,
-        Fault::CutShort => 3,
-    }
-}
+impl Refusal for SheetRefusal {
+    ghost number_of = { sheet_refusal_number };
 
-impl SheetRefusal {
+    ghost place_of = { sheet_refusal_place };
+
     // The refusal's number.
-    pub fn number(self) -> u64
-        ensures result { result ≡ sheet_refusal_number self }
-    {
+    fn number(self) -> u64 {
         match self {
-            SheetRefusal::BadNumber(fault, _) => fault_number(fault),
+            SheetRefusal::BadNumber(Fault::TooLong, _) => 1,
+            SheetRefusal::BadNumber(Fault::NotShortest, _) => 2,
+            SheetRefusal::BadNumber(Fault::CutShort, _) => 3,
             SheetRefusal::WordMissing(_) => 4,
             SheetRefusal::WordOutOfRange(_) => 5,
             SheetRefusal::GreatestBelowLeast(_) => 6,
@@ -85,18 +78,16 @@ impl SheetRefusal {
     }
 
     // The refusal's place.
-    pub fn place(self) -> usize
-        ensures result { result ≡ sheet_refusal_place self }
-    {
+    fn place(self) -> u64 {
         match self {
-            SheetRefusal::BadNumber(_, place) => place,
-            SheetRefusal::WordMissing(place) => place,
-            SheetRefusal::WordOutOfRange(place) => place,
-            SheetRefusal::GreatestBelowLeast(place) => place,
-            SheetRefusal::SharesNotWhole(place) => place,
-            SheetRefusal::WordsLeftOver(place) => place,
-            SheetRefusal::LowsAboveLimit(place) => place,
-            SheetRefusal::OutputTooShort(place) => place,
+            SheetRefusal::BadNumber(_, place)
+            | SheetRefusal::WordMissing(place)
+            | SheetRefusal::WordOutOfRange(place)
+            | SheetRefusal::GreatestBelowLeast(place)
+            | SheetRefusal::SharesNotWhole(place)
+            | SheetRefusal::WordsLeftOver(place)
+            | SheetRefusal::LowsAboveLimit(place)
+            | SheetRefusal::OutputTooShort(place) => place as u64,
         }
     }
 }

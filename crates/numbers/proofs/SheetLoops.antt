@@ -1,11 +1,12 @@
 -- The loops over a whole sheet: of `decode_sheet`, `put_all` and `total_size`.
 use mathlib.Core.Path.{◌≡◌, refl, sym, ap, ◌∙◌}
-use mathlib.Core.List.{List, [], ◌++◌}
+use mathlib.Core.List.{List, [], ◌∷◌, ◌++◌}
 use Prim.Native.Nat.{ℕ, zero, suc, ◌+◌, ◌-◌, ◌*◌, ◌≤◌, ◌<◌}
 use native.Mathlib.Omega.{arith}
 use native.Mathlib.Numerals.{add-one}
 use lib.ListN.{length, get_or, drop, set, length-append, length-drop, length-set, drop_of_length-le}
-use lib.Seq.{sets, length-sets, drop-drop}
+use lib.Seq.{sets, length-sets, drop-drop, get_or-append_seam}
+use Rattle.std.proofs.lemmas.List.{get_or_append_left}
 use Rattle.numbers.specs.Number.{Front, good, bad, number, decoded, form}
 use Rattle.numbers.specs.Sheet.{whole, onto, sheet_from, sheet_of, answer, judged, bytes_of}
 use Rattle.figures.specs.Bounds.{AllBelow}
@@ -121,6 +122,20 @@ pub record Writing (words sheet₀ sheet : List ℕ) (index at : ℕ) : Type 0 w
 
 pub writing_begin : (words sheet : List ℕ) → Writing words sheet sheet 0 0
 writing_begin words sheet = record { within = omega arith; end = omega arith; size = refl; same = refl }
+
+-- Where there is no word, nothing is written.
+pub none_written : (words sheet : List ℕ) → length words ≡ 0 → (0 ≡ length (bytes_of words)) × (sheet ≡ sets sheet 0 (bytes_of words))
+unfolding bytes_of
+none_written [] sheet e = (refl, refl)
+none_written (w ∷ words) sheet e = absurd (omega arith)
+
+-- The words in front of the last, and the last.
+module _ {words : List ℕ} (others : List ℕ) (last : ℕ) (e : words ≡ others ++ (last ∷ [])) where
+  pub other : (i : ℕ) → i < length others → get_or words i 0 ≡ get_or others i 0
+  other i h = ap (λ (l : List ℕ). get_or l i 0) e ∙ get_or_append_left others (last ∷ []) 0 i h
+
+  pub ending : get_or words (length others) 0 ≡ last
+  ending = ap (λ (l : List ℕ). get_or l (length others) 0) e ∙ get_or-append_seam others last [] 0
 
 -- The length of the words' bytes from an index on.
 length-bytes_of-drop : (words : List ℕ) (index : ℕ) → index < length words

@@ -15,7 +15,9 @@ pub fn decode_sheet(sheet: &[u8], words: &mut [u32]) -> Result<usize, BadNumber>
     let mut count = 0;
     while at < sheet.len() {
         let (value, next) = crate::decode(sheet, at)?;
-        crate::store(words, count, value);
+        if count < words.len() {
+            words[count] = value;
+        }
         count += 1;
         at = next;
     }

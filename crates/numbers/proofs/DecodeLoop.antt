@@ -10,14 +10,14 @@ use lib.Seq.{drop-cons}
 use borrow.Author.Tests.{lt-ltb, le-ltb, eq-eqb, ne_eqb}
 use Rattle.numbers.specs.Number.{Front, good, bad, above, later, number, decoded}
 use Rattle.numbers.specs.declared.Fault.TheVariants.{TooLong, NotShortest, CutShort}
-use Rattle.numbers.specs.declared.Decoded.{Decoded}
-use Rattle.numbers.specs.declared.Decoded.TheVariants.{Number, Refused}
+use Rattle.std.specs.Prelude.{Result, Ok, Err}
+use Rattle.numbers.specs.declared.BadNumber.{BadNumber}
 use Rattle.numbers.proofs.NumberLaws.{pow_pos}
 
 -- The answer, given what stands from place `next` on.
-abbrev pub resumed : ℕ → ℕ → ℕ → ℕ → Front → Decoded
-resumed at value unit next (good v size) = Number (value + unit * v) (next + size)
-resumed at value unit next (bad fault) = Refused fault at
+abbrev pub resumed : ℕ → ℕ → ℕ → ℕ → Front → Result (ℕ × ℕ) BadNumber
+resumed at value unit next (good v size) = Ok (value + unit * v, next + size)
+resumed at value unit next (bad fault) = Err (record { fault = fault; place = at })
 
 pub record Inv (sheet : List ℕ) (at value unit next left : ℕ) : Type 0 where
   pub small : value < unit
@@ -29,12 +29,12 @@ byte_first : (sheet : List ℕ) (i byte : ℕ) → byte ≡ get_or sheet i 0 →
 byte_first sheet i byte e h = rw e (drop-cons sheet i 0 h)
 
 module _ (sheet : List ℕ) (at : ℕ) where
-  pub empty : length sheet ≤ at → Refused CutShort at ≡ decoded at (number (drop at sheet))
+  pub empty : length sheet ≤ at → Err (record { fault = CutShort; place = at }) ≡ decoded at (number (drop at sheet))
   unfolding number
   empty h = rw (drop_of_length-le sheet h)
 
   module _ (byte : ℕ) (e : byte ≡ get_or sheet at 0) (h : at < length sheet) where
-    pub single : byte < 128 → Number byte (at + 1) ≡ decoded at (number (drop at sheet))
+    pub single : byte < 128 → Ok (byte, at + 1) ≡ decoded at (number (drop at sheet))
     unfolding number
     single low = rw (byte_first sheet at byte e h, lt-ltb byte 128 low)
 
@@ -48,17 +48,17 @@ module _ (sheet : List ℕ) (at : ℕ) where
         }
       where
         go : (f : Front) → resumed at (byte - 128) 128 (suc at) f ≡ decoded at (above (byte - 128) f)
-        go (good v size) = ap (Number (byte - 128 + 128 * v)) (omega arith)
+        go (good v size) = ap (λ (n : ℕ). Ok (byte - 128 + 128 * v, n)) (omega arith)
         go (bad fault) = refl
 
 module _ (sheet : List ℕ) (at value unit next : ℕ) where
-  pub exhausted : (left : ℕ) → left ≤ 0 → Inv sheet at value unit next left → Refused TooLong at ≡ decoded at (number (drop at sheet))
+  pub exhausted : (left : ℕ) → left ≤ 0 → Inv sheet at value unit next left → Err (record { fault = TooLong; place = at }) ≡ decoded at (number (drop at sheet))
   unfolding later
   exhausted zero z inv = inv.same
   exhausted (suc left) z inv = absurd (omega arith)
 
   pub ended : (left : ℕ) → 0 < left → Inv sheet at value unit next left → length sheet ≤ next
-      → Refused CutShort at ≡ decoded at (number (drop at sheet))
+      → Err (record { fault = CutShort; place = at }) ≡ decoded at (number (drop at sheet))
   unfolding later
   ended zero p inv h = absurd (omega arith)
   ended (suc left) p inv h = rw (drop_of_length-le sheet h) at inv.same
@@ -75,13 +75,13 @@ module _ (sheet : List ℕ) (at value unit next : ℕ) where
 
   module _ (byte : ℕ) (e : byte ≡ get_or sheet next 0) (h : next < length sheet) where
     pub not_shortest : (left : ℕ) → 0 < left → Inv sheet at value unit next left → byte ≡ 0
-        → Refused NotShortest at ≡ decoded at (number (drop at sheet))
+        → Err (record { fault = NotShortest; place = at }) ≡ decoded at (number (drop at sheet))
     unfolding later
     not_shortest zero p inv z = absurd (omega arith)
     not_shortest (suc left) p inv z = rw (byte_first sheet next byte e h, eq-eqb byte 0 z) at inv.same
 
     pub last : (left : ℕ) → 0 < left → Inv sheet at value unit next left → (byte ≡ 0 → ⊥) → byte < 128
-        → Number (value + unit * byte) (next + 1) ≡ decoded at (number (drop at sheet))
+        → Ok (value + unit * byte, next + 1) ≡ decoded at (number (drop at sheet))
     unfolding later
     last zero p inv z low = absurd (omega arith)
     last (suc left) p inv z low = rw (byte_first sheet next byte e h, ne_eqb byte 0 z, lt-ltb byte 128 low) at inv.same
@@ -103,6 +103,6 @@ module _ (sheet : List ℕ) (at value unit next : ℕ) where
         go : (group : ℕ) (f : Front)
             → resumed at (value + unit * group) (unit * 128) (suc next) f ≡ resumed at value unit next (above group f)
         go group (good v size) =
-            ap (λ (x : ℕ). Number x (suc next + size)) (omega (arith, mul-add unit group (128 * v), mul_assoc unit 128 v))
-            ∙ ap (Number (value + unit * (group + 128 * v))) (omega arith)
+            ap (λ (x : ℕ). Ok (x, suc next + size)) (omega (arith, mul-add unit group (128 * v), mul_assoc unit 128 v))
+            ∙ ap (λ (n : ℕ). Ok (value + unit * (group + 128 * v), n)) (omega arith)
         go group (bad fault) = refl

@@ -4,28 +4,21 @@ use mathlib.Core.Bool.{Bool, true, false}
 use mathlib.Core.List.{List}
 use Prim.Native.Nat.{ℕ, ◌+◌, ◌-◌, ◌*◌, ◌/◌, ◌%◌, ◌≤◌, ◌<◌}
 use native.Mathlib.Omega.{arith}
-use native.Mathlib.Nat.{mul-le-mul, mod-eq_of_lt}
+use native.Mathlib.Nat.{mod-eq_of_lt}
 use lib.ListN.{length, get_or, drop}
 use lib.Dec.{ltb}
 use borrow.Author.Tests.{ltb-true, ltb-false}
 use Rattle.numbers.specs.Number.{number, decoded}
-use Rattle.numbers.specs.declared.Decoded.TheVariants.{Number}
+use Rattle.std.specs.Prelude.{Ok}
 use Rattle.numbers.proofs.DecodeLoop.{single, begin, last}
 
 module _ (first byte : ℕ) (is_byte_lem : first < 256) where
-  pub second_fits : byte < 256 → first / 128 * byte < 256
-  second_fits h =
-      let a : first / 128 ≤ 1 = omega arith in
-      let b : byte ≤ 255 = omega arith in
-      let p : first / 128 * byte ≤ 1 * 255 = mul-le-mul a b in
-      omega arith
-
   module _ (sheet : List ℕ) (at : ℕ) (e : first ≡ get_or sheet at 0) (d : byte ≡ get_or sheet (at + 1) 0) (h : at + 1 < length sheet) where
     pub paired : first / 128 ≤ first / 128 * byte → first / 128 * byte < 128
-        → Number (first % 128 + 128 * (first / 128 * byte)) (at + 1 + first / 128) ≡ decoded at (number (drop at sheet))
+        → Ok (first % 128 + 128 * (first / 128 * byte), at + 1 + first / 128) ≡ decoded at (number (drop at sheet))
     paired some low = go (ltb first 128) refl
       where
-        go : (t : Bool) → ltb first 128 ≡ t → Number (first % 128 + 128 * (first / 128 * byte)) (at + 1 + first / 128) ≡ decoded at (number (drop at sheet))
+        go : (t : Bool) → ltb first 128 ≡ t → Ok (first % 128 + 128 * (first / 128 * byte), at + 1 + first / 128) ≡ decoded at (number (drop at sheet))
         go true t =
             let clear = ltb-true first 128 t in
             let another : first / 128 ≡ 0 = omega arith in

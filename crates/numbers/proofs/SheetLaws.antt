@@ -11,7 +11,8 @@ use Rattle.figures.proofs.Bounds.{cons_below, drop_below}
 use Rattle.figures.proofs.Search.{none_below, below_none}
 use Rattle.numbers.specs.Number.{Front, good, bad, number, form}
 use Rattle.numbers.specs.Sheet.{whole, Sheet, onto, sheet_from, sheet_of, bytes_of, first_formless, fitted, written}
-use Rattle.numbers.specs.declared.Written.TheVariants.{Bytes, TooLarge, TooShort}
+use Rattle.std.specs.Prelude.{Ok, Err}
+use Rattle.numbers.specs.declared.Unwritten.TheVariants.{TooLarge, TooShort}
 use Rattle.numbers.proofs.NumberLaws.{number-form, number_good, 1≤length_form, length_form≤4}
 
 -- ---- the bytes of words
@@ -105,12 +106,12 @@ pub written_forms : (words : List ℕ) (space : ℕ) → AllBelow (2 ^ 28) words
 written_forms words space h = rw (le-ltb (first_formless words) (length words) (below_none (2 ^ 28) words h))
 
 module _ (words : List ℕ) (space : ℕ) where
-  pub written_large : first_formless words < length words → TooLarge (first_formless words) ≡ written words space
+  pub written_large : first_formless words < length words → Err (TooLarge (first_formless words)) ≡ written words space
   written_large l = rw (lt-ltb (first_formless words) (length words) l)
 
   module _ (h : length words ≤ first_formless words) where
-    pub written_short : space < length (bytes_of words) → TooShort (length (bytes_of words)) ≡ written words space
+    pub written_short : space < length (bytes_of words) → Err (TooShort (length (bytes_of words))) ≡ written words space
     written_short l = rw (le-ltb (first_formless words) (length words) h, lt-leb (length (bytes_of words)) space l)
 
-    pub written_whole : length (bytes_of words) ≤ space → Bytes (length (bytes_of words)) ≡ written words space
+    pub written_whole : length (bytes_of words) ≤ space → Ok (length (bytes_of words)) ≡ written words space
     written_whole l = rw (le-ltb (first_formless words) (length words) h, le-leb (length (bytes_of words)) space l)

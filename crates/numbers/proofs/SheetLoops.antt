@@ -1,17 +1,17 @@
 -- The loops over a whole sheet: of `decode_sheet`, `put_all` and `total_size`.
 use mathlib.Core.Path.{◌≡◌, refl, sym, ap, ◌∙◌}
-use mathlib.Core.List.{List, [], ◌++◌}
+use mathlib.Core.List.{List, [], ◌∷◌, ◌++◌}
 use Prim.Native.Nat.{ℕ, zero, suc, ◌+◌, ◌-◌, ◌*◌, ◌≤◌, ◌<◌}
 use native.Mathlib.Omega.{arith}
 use native.Mathlib.Numerals.{add-one}
 use lib.ListN.{length, get_or, drop, set, length-append, length-drop, length-set, drop_of_length-le}
-use lib.Seq.{sets, length-sets, drop-drop}
+use lib.Seq.{sets, length-sets, drop-drop, get_or-append_seam}
+use Rattle.std.proofs.lemmas.List.{get_or_append_left}
 use Rattle.numbers.specs.Number.{Front, good, bad, number, decoded, form}
 use Rattle.numbers.specs.Sheet.{whole, onto, sheet_from, sheet_of, answer, judged, bytes_of}
 use Rattle.figures.specs.Bounds.{AllBelow}
-use Rattle.numbers.specs.declared.Fault.{Fault}
-use Rattle.numbers.specs.declared.Decoded.TheVariants.{Number, Refused}
-use Rattle.numbers.specs.declared.JudgedSheet.TheVariants.{Words, Refused as Turned}
+use Rattle.std.specs.Prelude.{Result, Ok, Err}
+use Rattle.numbers.specs.declared.BadNumber.{BadNumber}
 use Rattle.numbers.proofs.NumberLaws.{Good, number_good, 1≤length_form, length_form≤4}
 use Rattle.figures.proofs.Bounds.{drop_below}
 use Rattle.figures.proofs.Stores.{sets-append}
@@ -19,18 +19,27 @@ use Rattle.numbers.proofs.SheetLaws.{sheet_from-end, sheet_from_some, bytes_of-d
 
 -- ---- `decode_sheet`: the numbers in front of `at` are stored; those from there on complete the answer and the list
 
+-- Two figures that are told are told apart.
+pub ok_parts : {E : Type 0} {a b a' b' : ℕ} → ◌≡◌ {A = Result (ℕ × ℕ) E} (Ok (a, b)) (Ok (a', b')) → (a ≡ a') × (b ≡ b')
+ok_parts {a = a} {b = b} {a' = a'} {b' = b'} e =
+    let p : (a, b) ≡ (a', b') = cc in
+    (ap (λ (x : ℕ × ℕ). x.0) p, ap (λ (x : ℕ × ℕ). x.1) p)
+
 -- What an answer of `decode` says of the bytes.
-decoded_good : (at value next : ℕ) (f : Front) → Number value next ≡ decoded at f → (f ≡ good value (next - at)) × (at ≤ next)
+decoded_good : (at value next : ℕ) (f : Front) → Ok (value, next) ≡ decoded at f → (f ≡ good value (next - at)) × (at ≤ next)
 decoded_good at value next (good v size) e =
-    let ev : value ≡ v = cc in
-    let en : next ≡ at + size = cc in
+    let both = ok_parts e in
+    let ev : value ≡ v = both.0 in
+    let en : next ≡ at + size = both.1 in
     let d : size ≡ next - at = omega arith in
     (rw (ev, d), omega arith)
 decoded_good at value next (bad fault) e = let z : ◌≡◌ {A = ℕ} 0 1 = cc in absurd (omega arith)
 
-decoded_bad : (at : ℕ) (fault : Fault) (place : ℕ) (f : Front) → Refused fault place ≡ decoded at f → (f ≡ bad fault) × (place ≡ at)
-decoded_bad at fault place (good v size) e = let z : ◌≡◌ {A = ℕ} 0 1 = cc in absurd (omega arith)
-decoded_bad at fault place (bad g) e = let eg : fault ≡ g = cc in (rw eg, cc)
+decoded_bad : (at : ℕ) (why : BadNumber) (f : Front) → Err why ≡ decoded at f → (f ≡ bad why.fault) × (why.place ≡ at)
+decoded_bad at why (good v size) e = let z : ◌≡◌ {A = ℕ} 0 1 = cc in absurd (omega arith)
+decoded_bad at why (bad g) e =
+    let w : why ≡ record { fault = g; place = at } = cc in
+    rw w (refl, refl)
 
 pub record ReadingSheet (sheet words₀ words : List ℕ) (at count : ℕ) : Type 0 where
   pub bytes : AllBelow 256 sheet
@@ -56,10 +65,10 @@ reading_begin sheet words all =
     }
 
 module _ (sheet words₀ words : List ℕ) (at count : ℕ) (inv : ReadingSheet sheet words₀ words at count) where
-  pub reading-end : length sheet ≤ at → (Words count ≡ judged (sheet_of sheet)) × (words ≡ sets words₀ 0 (sheet_of sheet).words)
+  pub reading-end : length sheet ≤ at → (Ok count ≡ judged (sheet_of sheet)) × (words ≡ sets words₀ 0 (sheet_of sheet).words)
   reading-end h =
       let e : sheet_from inv.fuel at (drop at sheet) ≡ record { words = []; ending = whole } = rw (drop_of_length-le sheet h) (sheet_from-end inv.fuel at) in
-      (ap Words (omega arith) ∙ (rw e at inv.answered), rw e at inv.stored)
+      (ap (λ (n : ℕ). Ok n) (omega arith) ∙ (rw e at inv.answered), rw e at inv.stored)
 
   module _ (h : at < length sheet) where
     -- What the bytes from `at` on hold is what stands there, and then what follows that. There is fuel for it.
@@ -70,14 +79,14 @@ module _ (sheet words₀ words : List ℕ) (at count : ℕ) (inv : ReadingSheet 
         let l : suc fuel - 1 ≡ fuel = omega arith in
         rw (← e, l) (sheet_from_some fuel at (drop at sheet) (omega (arith, length-drop at sheet)) ∙ simp drop-drop)
 
-    pub reading_stop : (fault : Fault) (place : ℕ) → Refused fault place ≡ decoded at (number (drop at sheet))
-        → (Turned fault place ≡ judged (sheet_of sheet)) × (words ≡ sets words₀ 0 (sheet_of sheet).words)
-    reading_stop fault place d =
-        let b = decoded_bad at fault place (number (drop at sheet)) d in
-        let e = rest (bad fault) b.0 inv.fuel inv.enough in
-        (ap (Turned fault) b.1 ∙ (rw e at inv.answered), rw e at inv.stored)
+    pub reading_stop : (why : BadNumber) → Err why ≡ decoded at (number (drop at sheet))
+        → (Err why ≡ judged (sheet_of sheet)) × (words ≡ sets words₀ 0 (sheet_of sheet).words)
+    reading_stop why d =
+        let b = decoded_bad at why (number (drop at sheet)) d in
+        let e = rest (bad why.fault) b.0 inv.fuel inv.enough in
+        (ap (λ (p : ℕ). Err (record { fault = why.fault; place = p })) b.1 ∙ (rw e at inv.answered), rw e at inv.stored)
 
-    module _ (value next : ℕ) (d : Number value next ≡ decoded at (number (drop at sheet))) where
+    module _ (value next : ℕ) (d : Ok (value, next) ≡ decoded at (number (drop at sheet))) where
       is-good : Good 4 (drop at sheet) value (next - at)
       is-good = number_good (drop at sheet) value (next - at) (drop_below 256 sheet at inv.bytes) (decoded_good at value next (number (drop at sheet)) d).0
 
@@ -113,6 +122,20 @@ pub record Writing (words sheet₀ sheet : List ℕ) (index at : ℕ) : Type 0 w
 
 pub writing_begin : (words sheet : List ℕ) → Writing words sheet sheet 0 0
 writing_begin words sheet = record { within = omega arith; end = omega arith; size = refl; same = refl }
+
+-- Where there is no word, nothing is written.
+pub none_written : (words sheet : List ℕ) → length words ≡ 0 → (0 ≡ length (bytes_of words)) × (sheet ≡ sets sheet 0 (bytes_of words))
+unfolding bytes_of
+none_written [] sheet e = (refl, refl)
+none_written (w ∷ words) sheet e = absurd (omega arith)
+
+-- The words in front of the last, and the last.
+module _ {words : List ℕ} (others : List ℕ) (last : ℕ) (e : words ≡ others ++ (last ∷ [])) where
+  pub other : (i : ℕ) → i < length others → get_or words i 0 ≡ get_or others i 0
+  other i h = ap (λ (l : List ℕ). get_or l i 0) e ∙ get_or_append_left others (last ∷ []) 0 i h
+
+  pub ending : get_or words (length others) 0 ≡ last
+  ending = ap (λ (l : List ℕ). get_or l (length others) 0) e ∙ get_or-append_seam others last [] 0
 
 -- The length of the words' bytes from an index on.
 length-bytes_of-drop : (words : List ℕ) (index : ℕ) → index < length words

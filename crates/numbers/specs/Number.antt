@@ -1,10 +1,9 @@
 -- Numbers on the sheet: one to four bytes, of which each but the last is 128 or more. The low seven bits of the bytes make the
 -- value, those of the first byte being the lowest. A number that a shorter form would carry is not good.
-use Rattle.std.specs.Prelude.{cond, List, [], ◌∷◌, ℕ, zero, suc, ◌+◌, ◌-◌, ◌*◌, ◌/◌, ◌%◌, ◌^◌, ltb, eqb}
+use Rattle.std.specs.Prelude.{Result, Ok, Err, cond, List, [], ◌∷◌, ℕ, zero, suc, ◌+◌, ◌-◌, ◌*◌, ◌/◌, ◌%◌, ◌^◌, ltb, eqb}
 use Rattle.numbers.specs.declared.Fault.{Fault}
 use Rattle.numbers.specs.declared.Fault.TheVariants.{TooLong, NotShortest, CutShort}
-use Rattle.numbers.specs.declared.Decoded.{Decoded}
-use Rattle.numbers.specs.declared.Decoded.TheVariants.{Number, Refused}
+use Rattle.numbers.specs.declared.BadNumber.{BadNumber}
 
 -- The refusal's number.
 abbrev pub fault_number : Fault → ℕ
@@ -41,9 +40,9 @@ number (b ∷ bytes) =
     (above (b - 128) (later 3 bytes))
 
 -- A number that starts at a place, with the place after it, or its refusal, whose place is where the number starts.
-abbrev pub decoded : ℕ → Front → Decoded
-decoded at (good value size) = Number value (at + size)
-decoded at (bad fault) = Refused fault at
+abbrev pub decoded : ℕ → Front → Result (ℕ × ℕ) BadNumber
+decoded at (good value size) = Ok (value, at + size)
+decoded at (bad fault) = Err (record { fault = fault; place = at })
 
 -- ---- writing
 

@@ -1,12 +1,11 @@
 -- The sheet (document 01): words as numbers, nothing between or after.
-use Rattle.std.specs.Prelude.{cond, List, [], ◌∷◌, ◌++◌, ℕ, zero, suc, ◌+◌, length, drop, ltb, leb}
+use Rattle.std.specs.Prelude.{Result, Ok, Err, cond, List, [], ◌∷◌, ◌++◌, ℕ, zero, suc, ◌+◌, length, drop, ltb, leb}
 use Rattle.std.proofs.lemmas.List.Edits.{sets}
 use Rattle.figures.specs.Bounds.{first_not_below}
 use Rattle.numbers.specs.declared.Fault.{Fault}
-use Rattle.numbers.specs.declared.JudgedSheet.{JudgedSheet}
-use Rattle.numbers.specs.declared.JudgedSheet.TheVariants.{Words, Refused}
-use Rattle.numbers.specs.declared.Written.{Written}
-use Rattle.numbers.specs.declared.Written.TheVariants.{Bytes, TooLarge, TooShort}
+use Rattle.numbers.specs.declared.BadNumber.{BadNumber}
+use Rattle.numbers.specs.declared.Unwritten.{Unwritten}
+use Rattle.numbers.specs.declared.Unwritten.TheVariants.{TooLarge, TooShort}
 use Rattle.numbers.specs.Number.{Front, good, bad, number, form, form_limit}
 
 -- ---- reading
@@ -37,12 +36,12 @@ abbrev pub sheet_of : List ℕ → Sheet
 sheet_of bytes = sheet_from (length bytes) 0 bytes
 
 -- The answer on a sheet of `count` good numbers.
-abbrev pub answer : ℕ → SheetEnding → JudgedSheet
-answer count whole = Words count
-answer count (refused fault at) = Refused fault at
+abbrev pub answer : ℕ → SheetEnding → Result ℕ BadNumber
+answer count whole = Ok count
+answer count (refused fault at) = Err (record { fault = fault; place = at })
 
 -- The answer on a sheet.
-abbrev pub judged : Sheet → JudgedSheet
+abbrev pub judged : Sheet → Result ℕ BadNumber
 judged sheet = answer (length sheet.words) sheet.ending
 
 -- ---- writing
@@ -57,15 +56,14 @@ abbrev pub first_formless : List ℕ → ℕ
 first_formless words = first_not_below form_limit words
 
 -- What becomes of `size` bytes that are to stand in a sheet with space for so many.
-abbrev pub fitted : ℕ → ℕ → Written
-fitted size space = cond (leb size space) (Bytes size) (TooShort size)
+abbrev pub fitted : ℕ → ℕ → Result ℕ Unwritten
+fitted size space = cond (leb size space) (Ok size) (Err (TooShort size))
 
 -- What becomes of words that are to stand in a sheet with space for so many bytes.
-abbrev pub written : List ℕ → ℕ → Written
-written words space = cond (ltb (first_formless words) (length words)) (TooLarge (first_formless words)) (fitted (length (bytes_of words)) space)
+abbrev pub written : List ℕ → ℕ → Result ℕ Unwritten
+written words space = cond (ltb (first_formless words) (length words)) (Err (TooLarge (first_formless words))) (fitted (length (bytes_of words)) space)
 
 -- The sheet after that answer: words that were not written left it unchanged.
-abbrev pub after_encode_sheet : Written → List ℕ → List ℕ → List ℕ
-after_encode_sheet (Bytes size) words sheet = sets sheet 0 (bytes_of words)
-after_encode_sheet (TooLarge index) words sheet = sheet
-after_encode_sheet (TooShort size) words sheet = sheet
+abbrev pub after_encode_sheet : Result ℕ Unwritten → List ℕ → List ℕ → List ℕ
+after_encode_sheet (Ok size) words sheet = sets sheet 0 (bytes_of words)
+after_encode_sheet (Err why) words sheet = sheet

@@ -2,7 +2,7 @@
 // The definitions that the contracts cite stand in specs/Number.antt and specs/Sheet.antt.
 #![tactic(auto)]
 
-ghost use Rattle.std.specs.Prelude.{◌≡◌, ◌+◌, ◌^◌, ◌<◌, ◌≤◌, length, drop, set};
+ghost use Rattle.std.specs.Prelude.{◌≡◌, ◌+◌, ◌^◌, ◌<◌, ◌≤◌, length, drop, MatchResult};
 ghost use Rattle.std.proofs.lemmas.List.Edits.{sets};
 ghost use Rattle.numbers.specs.Number.{number, decoded, form};
 ghost use Rattle.numbers.specs.Followed.{Followed};
@@ -14,32 +14,23 @@ use figures::first_not_below;
 pub mod parts;
 
 // Why bytes are no number: four bytes that all say another follows; a last byte of 0 after others; the bytes end inside.
-#[derive(Clone, Copy)]
+#[derive(Clone, Copy, Debug, PartialEq, Eq)]
 pub enum Fault {
     TooLong,
     NotShortest,
     CutShort,
 }
 
-// A number and the place after it, or its fault and the place where it starts.
-#[derive(Clone, Copy)]
-pub enum Decoded {
-    Number(u32, usize),
-    Refused(Fault, usize),
+// A bad number: its fault, and the place where it starts.
+#[derive(Clone, Copy, Debug, PartialEq, Eq)]
+pub struct BadNumber {
+    pub fault: Fault,
+    pub place: usize,
 }
 
-// How many numbers a sheet has, or the first fault in it and the place where that number starts.
-#[derive(Clone, Copy)]
-pub enum JudgedSheet {
-    Words(usize),
-    Refused(Fault, usize),
-}
-
-// What became of words to be written: the count of bytes written, the index of the first word that has no form, or the
-// count of bytes needed.
-#[derive(Clone, Copy)]
-pub enum Written {
-    Bytes(usize),
+// Why words are not written: the index of the first word that has no form, or the count of bytes needed.
+#[derive(Clone, Copy, Debug, PartialEq, Eq)]
+pub enum Unwritten {
     TooLarge(usize),
     TooShort(usize),
 }
@@ -47,65 +38,54 @@ pub enum Written {
 // The first value that has no form: 2^28.
 const FORM_LIMIT: u32 = 268435456;
 
-// A byte as a number that sums and products fit.
-fn wide(byte: u8) -> u32
-    ensures result { (result ≡ byte) × (result < 256) }
+// The number that starts at a place of the sheet, byte by byte, and the place after it.
+fn decode_bytes(sheet: &[u8], at: usize) -> Result<(u32, usize), Fault>
+    ensures result { MatchResult result (λ found. Ok found ≡ decoded at (number (drop at sheet.now)))
+        (λ fault. Err (record { fault = fault; place = at }) ≡ decoded at (number (drop at sheet.now))) }
 {
-    byte as u32
-}
-
-// The number that starts at a place of the sheet, byte by byte.
-fn decode_bytes(sheet: &[u8], at: usize) -> Decoded
-    ensures result { result ≡ decoded at (number (drop at sheet.now)) }
-{
-    if sheet.len() <= at {
-        return Decoded::Refused(Fault::CutShort, at);
-    }
-    let first = wide(sheet[at]);
+    let Some(first) = sheet.get(at) else {
+        return Err(Fault::CutShort);
+    };
+    let first = u32::from(*first);
     if first < 128 {
-        return Decoded::Number(first, at + 1);
+        return Ok((first, at + 1));
     }
-    let mut value: u32 = first - 128;
-    let mut unit: u32 = 128;
-    let mut next = at + 1;
-    let mut left: u32 = 3;
-    while 0 < left {
-        if sheet.len() <= next {
-            return Decoded::Refused(Fault::CutShort, at);
-        }
-        let byte = wide(sheet[next]);
+    let mut value = first - 128;
+    let mut unit = 128;
+    for next in at + 1..at + 4 {
+        let Some(byte) = sheet.get(next) else {
+            return Err(Fault::CutShort);
+        };
+        let byte = u32::from(*byte);
         if byte == 0 {
-            return Decoded::Refused(Fault::NotShortest, at);
+            return Err(Fault::NotShortest);
         }
         if byte < 128 {
-            return Decoded::Number(value + unit * byte, next + 1);
+            return Ok((value + unit * byte, next + 1));
         }
         value += unit * (byte - 128);
         unit *= 128;
-        next += 1;
-        left -= 1;
     }
-    Decoded::Refused(Fault::TooLong, at)
+    Err(Fault::TooLong)
 }
 
-// The number that starts at a place of the sheet. If it has one or two bytes, and the sheet has two from there on, it is read
-// without a branch on its size: the processor would often predict that wrongly.
-pub fn decode(sheet: &[u8], at: usize) -> Decoded
+// The number that starts at a place of the sheet, and the place after it. If it has one or two bytes, and the sheet has two from there
+// on, it is read without a branch on its size: the processor would often predict that wrongly.
+pub fn decode(sheet: &[u8], at: usize) -> Result<(u32, usize), BadNumber>
     ensures result { result ≡ decoded at (number (drop at sheet.now)) }
 {
     if at < sheet.len() && at + 1 < sheet.len() {
-        let first = wide(sheet[at]);
+        let first = u32::from(sheet[at]);
         // 1 if another byte follows, else 0.
         let another = first / 128;
-        let second = another * wide(sheet[at + 1]);
+        let second = another * u32::from(sheet[at + 1]);
         // A second byte, if there is one, is not 0 and is the last.
         if another <= second && second < 128 {
             let value = first % 128 + 128 * second;
-            let next = at + 1 + another as usize;
-            return Decoded::Number(value, next);
+            return Ok((value, at + 1 + another as usize));
         }
     }
-    decode_bytes(sheet, at)
+    decode_bytes(sheet, at).map_err(|fault| BadNumber { fault, place: at })
 }
 
 // The count of bytes in a number's form.
@@ -159,24 +139,13 @@ fn put_followed(value: u32, sheet: &mut [u8], at: usize) -> usize
     at + 1 + another as usize
 }
 
-// Stores a word at an index of a list, if the list has it.
-fn store(words: &mut [u32], index: usize, word: u32)
-    ensures stored { words.new ≡ set words.old index word }
-{
-    if index < words.len() {
-        words[index] = word;
-    }
-}
-
 // The count of bytes in the forms of some words.
 fn total_size(words: &[u32]) -> usize
     ensures result { result ≡ length (bytes_of words.now) }
 {
     let mut total = 0;
-    let mut index = 0;
-    while index < words.len() {
-        total += size(words[index]);
-        index += 1;
+    for word in words {
+        total += size(*word);
     }
     total
 }
@@ -188,34 +157,32 @@ fn put_all(words: &[u32], sheet: &mut [u8]) -> usize
     ensures count { result ≡ length (bytes_of words.now) }
     ensures stored { sheet.new ≡ sets sheet.old 0 (bytes_of words.now) }
 {
-    let mut done = 0;
-    let mut at = 0;
-    while done + 1 < words.len() {
-        at = put_followed(words[done], sheet, at);
-        done += 1;
-    }
     // Nothing follows the last word.
-    if done < words.len() {
-        return put(words[done], sheet, at);
+    let Some((last, others)) = words.split_last() else {
+        return 0;
+    };
+    let mut at = 0;
+    for word in others {
+        at = put_followed(*word, sheet, at);
     }
-    at
+    put(*last, sheet, at)
 }
 
-// Writes words as numbers to the front of a sheet. Refused, it leaves the sheet unchanged.
-pub fn encode_sheet(words: &[u32], sheet: &mut [u8]) -> Written
+// Writes words as numbers to the front of a sheet, and gives the count of bytes. Refused, it leaves the sheet unchanged.
+pub fn encode_sheet(words: &[u32], sheet: &mut [u8]) -> Result<usize, Unwritten>
     ensures result { result ≡ written words.now (length sheet.old) }
     ensures sheet { sheet.new ≡ after_encode_sheet result words.now sheet.old }
 {
     let large = first_not_below(FORM_LIMIT, words);
     if large < words.len() {
-        return Written::TooLarge(large);
+        return Err(Unwritten::TooLarge(large));
     }
     // No form is longer than four bytes, so only a sheet with fewer a word can be too short.
     if sheet.len() / 4 < words.len() {
         let needed = total_size(words);
         if sheet.len() < needed {
-            return Written::TooShort(needed);
+            return Err(Unwritten::TooShort(needed));
         }
     }
-    Written::Bytes(put_all(words, sheet))
+    Ok(put_all(words, sheet))
 }

@@ -4,24 +4,22 @@ ghost use Rattle.std.specs.Prelude.{◌≡◌};
 ghost use Rattle.std.proofs.lemmas.List.Edits.{sets};
 ghost use Rattle.numbers.specs.Sheet.{sheet_of, judged};
 
-use crate::{Decoded, JudgedSheet};
+use crate::BadNumber;
 
-// Reads a sheet to its end or its first fault. The numbers go to the front of `words`, as many as it has space for.
-pub fn decode_sheet(sheet: &[u8], words: &mut [u32]) -> JudgedSheet
+// Reads a sheet to its end or its first fault, and gives the count of its numbers. They go to the front of `words`, as many as it has space for.
+pub fn decode_sheet(sheet: &[u8], words: &mut [u32]) -> Result<usize, BadNumber>
     ensures result { result ≡ judged (sheet_of sheet.now) }
     ensures words { words.new ≡ sets words.old 0 (sheet_of sheet.now).words }
 {
     let mut at = 0;
     let mut count = 0;
     while at < sheet.len() {
-        match crate::decode(sheet, at) {
-            Decoded::Number(value, next) => {
-                crate::store(words, count, value);
-                count += 1;
-                at = next;
-            }
-            Decoded::Refused(fault, place) => return JudgedSheet::Refused(fault, place),
+        let (value, next) = crate::decode(sheet, at)?;
+        if count < words.len() {
+            words[count] = value;
         }
+        count += 1;
+        at = next;
     }
-    JudgedSheet::Words(count)
+    Ok(count)
 }

@@ -14,23 +14,22 @@ use Rattle.rooms.specs.Credits.{credited_cords, credited_server, credited_server
 use Rattle.figures.specs.Figures.{at}
 use Rattle.rooms.specs.Told.{told}
 use Rattle.rooms.specs.declared.SheetRefusal.{SheetRefusal}
-use Rattle.rooms.specs.declared.Checked.{Checked}
-use Rattle.rooms.specs.declared.Checked.TheVariants.{Good, Refused}
+use Rattle.std.specs.Prelude.{Ok, Err}
 use Rattle.rooms.proofs.Inversion.{took, said, cord_is, load_is}
 use Rattle.rooms.proofs.Steps.{known}
 use Rattle.rooms.proofs.Carried.{carried_most}
 use Rattle.figures.proofs.Credits.{credited-length, sum-credited, figure_in_sum}
 
 -- Where a part is refused, nothing is claimed of the sums.
-pub credits_refused : {A : Type 0} (f : A → ℕ) (s : Step A) {credit : A → List ℕ → List ℕ} {node_count most : ℕ} {sums sums' : List ℕ} {r : Checked} {q : SheetRefusal}
-    → r ≡ told f s → r ≡ Refused q → LowsCredited s credit node_count most sums sums'
+pub credits_refused : {A : Type 0} (f : A → ℕ) (s : Step A) {credit : A → List ℕ → List ℕ} {node_count most : ℕ} {sums sums' : List ℕ} {q : SheetRefusal}
+    → Err q ≡ told f s → LowsCredited s credit node_count most sums sums'
 unfolding told
-credits_refused f (good a j) d e = absurd (suc-ne-zero 0 (cc))
-credits_refused f (bad m) d e = record { are = λ a j is. absurd (suc-ne-zero 0 (cc)); grow = λ a j is. absurd (suc-ne-zero 0 (cc)) }
+credits_refused f (good a j) d = absurd (suc-ne-zero 0 (cc))
+credits_refused f (bad m) d = record { are = λ a j is. absurd (suc-ne-zero 0 (cc)); grow = λ a j is. absurd (suc-ne-zero 0 (cc)) }
 
-pub stopped : {A : Type 0} (f : A → ℕ) (s : Step A) {credit : A → List ℕ → List ℕ} {node_count most : ℕ} {sums sums' : List ℕ} {r : Checked} {q : SheetRefusal}
-    → r ≡ told f s → r ≡ Refused q → (r ≡ told f s) × LowsCredited s credit node_count most sums sums'
-stopped f s d e = (d, credits_refused f s d e)
+pub stopped : {A : Type 0} (f : A → ℕ) (s : Step A) {credit : A → List ℕ → List ℕ} {node_count most : ℕ} {sums sums' : List ℕ} {q : SheetRefusal}
+    → Err q ≡ told f s → (Err q ≡ told f s) × LowsCredited s credit node_count most sums sums'
+stopped f s d = (d, credits_refused f s d)
 
 -- The sums before are known by another name.
 pub credits_from : {A : Type 0} {s : Step A} {credit : A → List ℕ → List ℕ} {node_count most : ℕ} {sums start sums' : List ℕ} → sums ≡ start
@@ -112,10 +111,10 @@ module _ {node_count : ℕ} (scale least : ℕ) {w : List ℕ} where
   cords-end count i sums₀ = crediting_end (λ l. refl) count 0 i sums₀
 
   pub next_cord : {goal : List ℕ} {size bound left j : ℕ} {sums : List ℕ} → CordsCrediting scale node_count least w goal size bound left j sums → 0 < left
-      → {r : Checked} {share after : ℕ} → r ≡ told share_of (cord scale node_count w j) → r ≡ Good share after → NextCord scale node_count least w goal size bound left j sums share after
+      → {share after : ℕ} → Ok (share, after) ≡ told share_of (cord scale node_count w j) → NextCord scale node_count least w goal size bound left j sums share after
   unfolding credited_cords
-  next_cord {j = j} {sums = sums} t z {share = share} {after = after} d e =
-      let a = known share_of (cord scale node_count w j) d e in
+  next_cord {j = j} {sums = sums} t z {share = share} {after = after} d =
+      let a = known share_of (cord scale node_count w j) d in
       let c = cord_is scale node_count w j a.got after a.is in
       let n : get_or w j 0 ≡ a.got.node = sym (ap (λ (x : Cord). x.node) c.is) in
       let m : IsScale scale → least ≤ most_watts → carried scale share least ≤ most_watts
@@ -192,10 +191,10 @@ module _ {node_count : ℕ} (scale : ℕ) {w : List ℕ} where
   servers-end count i sums₀ = crediting_end (λ l. refl) count 0 i sums₀
 
   pub servers_turn : {goal : List ℕ} {size bound left before j : ℕ} {sums : List ℕ} → ServersCrediting scale node_count w goal size bound left before j sums → 0 < left
-      → {r : Checked} {count after : ℕ} {sums' : List ℕ} → r ≡ told cord_count (server scale node_count before w j) → r ≡ Good count after
+      → {count after : ℕ} {sums' : List ℕ} → Ok (count, after) ≡ told cord_count (server scale node_count before w j)
       → LowsCredited (server scale node_count before w j) (credited_server scale) node_count (most_server_cords * most_watts) sums sums' → length sums' ≡ length sums
       → ServersCrediting scale node_count w goal size bound (left - 1) (before + count) after sums'
   unfolding credited_servers
-  servers_turn {before = before} {j = j} t z d e credits el =
-      let a = known cord_count (server scale node_count before w j) d e in
+  servers_turn {before = before} {j = j} t z d credits el =
+      let a = known cord_count (server scale node_count before w j) d in
       crediting_turn (credited_server scale) (λ a rest l. refl) t z a.is (ap (λ (n : ℕ). before + n) a.figure) (credits.are a.got _ a.is) el (credits.grow a.got _ a.is)

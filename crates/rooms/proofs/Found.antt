@@ -17,8 +17,8 @@ use Rattle.rooms.specs.Credits.{node_index, parent_at, limit_at, tree_sum, excee
 use Rattle.figures.specs.Figures.{at}
 use Rattle.rooms.specs.Told.{told}
 use Rattle.rooms.specs.declared.SheetRefusal.{SheetRefusal}
-use Rattle.rooms.specs.declared.Checked.{Checked}
-use Rattle.rooms.specs.declared.Checked.TheVariants.{Refused}
+use Rattle.std.specs.Prelude.{Result, Err}
+use Rattle.std.specs.Result.{is_err}
 use Rattle.rooms.proofs.Places.{Layout, layout, same_parent, same-limit, table_rises, node-count}
 use Rattle.rooms.proofs.Whole.{percents_of}
 use Rattle.rooms.proofs.Rows.{servers_hang}
@@ -137,8 +137,20 @@ lows-from w n sums {sums'} formed count r j e es g =
     (subst (λ (l : List ℕ). SumsGathered (parent_at (percents_of w) w) n l sums') es (subst (λ (b : Bool). SumsGathered (parent_at b w) n sums sums') formed g))
 
 -- Of a refused table nothing is claimed but the refusal.
-pub unclaimed : (s : Step Room) {r : Checked} {q : SheetRefusal} {l : List ℕ} → r ≡ told room_cords s → r ≡ Refused q
-    → (r ≡ told room_cords s) × ((room : Room) (j : ℕ) → s ≡ good room j → l ≡ node_lows room)
+pub unclaimed : (s : Step Room) {q : SheetRefusal} {l : List ℕ} → Err q ≡ told room_cords s
+    → (Err q ≡ told room_cords s) × ((room : Room) (j : ℕ) → s ≡ good room j → l ≡ node_lows room)
 unfolding told
-unclaimed (good a j) d e = absurd (suc-ne-zero 0 (cc))
-unclaimed (bad m) d e = (d, λ room j is. absurd (suc-ne-zero 0 (cc)))
+unclaimed (good a j) d = absurd (suc-ne-zero 0 (cc))
+unclaimed (bad m) d = (d, λ room j is. absurd (suc-ne-zero 0 (cc)))
+
+-- The lows that are handed out: those of a good table, and none where it is refused.
+pub lows_cleared : (s : Step Room) {r : Result (ℕ × ℕ) SheetRefusal} {l : List ℕ} → r ≡ told room_cords s → is_err r ≡ true → l ≡ replicate most_nodes 0 → l ≡ lows_told s
+unfolding told lows_told
+lows_cleared (good a j) {r = r} d e z = let bad_end : is_err r ≡ false = ap is_err d in absurd (suc-ne-zero 0 (cc))
+lows_cleared (bad m) d e z = z
+
+pub lows_kept : (s : Step Room) {r : Result (ℕ × ℕ) SheetRefusal} {l : List ℕ} → r ≡ told room_cords s → is_err r ≡ false
+    → ((room : Room) (j : ℕ) → s ≡ good room j → l ≡ node_lows room) → l ≡ lows_told s
+unfolding told lows_told
+lows_kept (good a j) d e lows = lows a j refl
+lows_kept (bad m) {r = r} d e lows = let bad_end : is_err r ≡ true = ap is_err d in absurd (suc-ne-zero 0 (cc))

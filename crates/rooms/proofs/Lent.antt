@@ -15,8 +15,7 @@ use Rattle.rooms.specs.Part.{Step, good, bad}
 use Rattle.rooms.specs.Table.{Room, most_words}
 use Rattle.rooms.specs.Limits.{checked}
 use Rattle.rooms.specs.declared.SheetRefusal.TheVariants.{OutputTooShort}
-use Rattle.rooms.specs.declared.SheetAnswer.{SheetAnswer}
-use Rattle.rooms.specs.declared.SheetAnswer.TheVariants.{Accepted}
+use Rattle.std.specs.Prelude.{Ok}
 use Rattle.rooms.specs.Outcome.{answer_of, if_good, read_words, reading, reading_first, writing}
 use Rattle.rooms.proofs.Reach.{prefix_decides, length_small}
 use Rattle.rooms.proofs.Outcomes.{accepted_told, accepted_is, front-sets, front_size}
@@ -70,10 +69,10 @@ module _ (bytes : List ℕ) (entries : ℕ) where
       ending whole e = (accepted_is (checked (take taken words) 0) (take taken words) entries e).1
       ending (sheet.refused fault place) e = let z : ◌≡◌ {A = ℕ} 0 1 = cc in absurd (omega arith)
 
-  pub first_stands : (list : List ℕ) {list' : List ℕ} {told : SheetAnswer} {count : ℕ} → told ≡ answer_of (reading_first (length list) bytes entries) → told ≡ Accepted count
+  pub first_stands : (list : List ℕ) {list' : List ℕ} {count : ℕ} → Ok count ≡ answer_of (reading_first (length list) bytes entries)
       → list' ≡ sets list 0 words → Stands list list' count
-  first_stands list {list' = list'} {count = count} d e s =
-      let o = accepted_told _ d e in
+  first_stands list {list' = list'} {count = count} d s =
+      let o = accepted_told _ d in
       let first : take (length list) words ≡ o.output = first_is (length list) o.is in
       let n : count ≡ min (length words) (length list) = sym (front_size list words refl ∙ ap length first ∙ o.counted) in
       let fits : count ≤ length list' = omega (arith, n, ap length s ∙ length-sets list 0 words) in

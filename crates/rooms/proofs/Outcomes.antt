@@ -15,57 +15,50 @@ use Rattle.outcomes.proofs.Parts.{accepted_went}
 use Rattle.figures.proofs.Stores.{take-sets, take_min}
 use Rattle.numbers.specs.Sheet.{SheetEnding, whole, sheet_of, judged, answer, bytes_of, written, fitted}
 use Rattle.numbers.specs.Sheet as sheet
-use Rattle.numbers.specs.declared.Fault.{Fault}
-use Rattle.numbers.specs.declared.JudgedSheet.{JudgedSheet}
-use Rattle.numbers.specs.declared.JudgedSheet.TheVariants.{Words}
-use Rattle.numbers.specs.declared.JudgedSheet.TheVariants as judge
-use Rattle.numbers.specs.declared.Written.{Written}
-use Rattle.numbers.specs.declared.Written.TheVariants.{Bytes, TooLarge, TooShort}
+use Rattle.std.specs.Prelude.{Result, Ok, Err}
+use Rattle.numbers.specs.declared.BadNumber.{BadNumber as Bad}
+use Rattle.numbers.specs.declared.Unwritten.{Unwritten}
+use Rattle.numbers.specs.declared.Unwritten.TheVariants.{TooShort}
 use Rattle.numbers.proofs.SheetLaws.{written_forms}
 use Rattle.rooms.specs.Part.{Step, good, bad}
 use Rattle.rooms.specs.Part as part
 use Rattle.rooms.specs.Table.{Room}
 use Rattle.rooms.specs.Limits.{checked}
 use Rattle.rooms.specs.Told.{told}
-use Rattle.rooms.specs.Outcome.{SheetOutcome, answer_of, if_good, read_words, reading, reading_first, writing}
+use Rattle.rooms.specs.Outcome.{SheetOutcome, unwritten_refusal, answer_of, if_good, read_words, reading, reading_first, writing}
 use Rattle.rooms.proofs.Reach.{words_small}
 use Rattle.rooms.specs.declared.SheetRefusal.{SheetRefusal}
 use Rattle.rooms.specs.declared.SheetRefusal.TheVariants.{BadNumber, OutputTooShort}
-use Rattle.rooms.specs.declared.SheetAnswer.{SheetAnswer}
-use Rattle.rooms.specs.declared.SheetAnswer.TheVariants.{Accepted}
-use Rattle.rooms.specs.declared.SheetAnswer.TheVariants as answers
-use Rattle.rooms.specs.declared.Checked.{Checked}
-use Rattle.rooms.specs.declared.Checked.TheVariants.{Refused}
 
 -- A step that is told as refused is refused so.
-pub refused_so : {A : Type 0} (f : A → ℕ) (s : Step A) {r : Checked} {q : SheetRefusal} → r ≡ told f s → r ≡ Refused q → s ≡ bad q
+pub refused_so : {A : Type 0} (f : A → ℕ) (s : Step A) {q : SheetRefusal} → Err q ≡ told f s → s ≡ bad q
 unfolding told
-refused_so f (good a j) d e = absurd (suc-ne-zero 0 (cc))
-refused_so f (bad m) {q = q} d e = let z : m ≡ q = cc in ap bad z
+refused_so f (good a j) d = absurd (suc-ne-zero 0 (cc))
+refused_so f (bad m) {q = q} d = let z : m ≡ q = cc in ap bad z
 
 -- A refused operation leaves the list; an accepted one has written its output to the front.
 pub refused_done : (outcome : SheetOutcome) (list : List ℕ) {q : SheetRefusal} → outcome ≡ refused q
-    → (answers.Refused q ≡ answer_of outcome) × (list ≡ after (λ l. l) outcome list)
+    → (Err q ≡ answer_of outcome) × (list ≡ after (λ l. l) outcome list)
 refused_done outcome list e = rw e (refl, refl)
 
 pub accepted_done : (outcome : SheetOutcome) (list list' output : List ℕ) {count : ℕ} → outcome ≡ accepted output → length output ≡ count
     → list' ≡ sets list 0 output
-    → (Accepted count ≡ answer_of outcome) × (list' ≡ after (λ l. l) outcome list)
-accepted_done outcome list list' output e n w = rw e (ap Accepted (sym n), w)
+    → (Ok count ≡ answer_of outcome) × (list' ≡ after (λ l. l) outcome list)
+accepted_done outcome list list' output e n w = rw e (ap (λ (m : ℕ). Ok m) (sym n), w)
 
 -- What an answer tells of its outcome: that it is refused so, or accepted with an output of so many entries.
-pub refused_told : (outcome : SheetOutcome) {told : SheetAnswer} {q : SheetRefusal} → told ≡ answer_of outcome → told ≡ answers.Refused q → outcome ≡ refused q
-refused_told (accepted output) d e = absurd (suc-ne-zero 0 (cc))
-refused_told (refused r) {q = q} d e = let z : r ≡ q = cc in ap refused z
+pub refused_told : (outcome : SheetOutcome) {q : SheetRefusal} → Err q ≡ answer_of outcome → outcome ≡ refused q
+refused_told (accepted output) d = absurd (suc-ne-zero 0 (cc))
+refused_told (refused r) {q = q} d = let z : r ≡ q = cc in ap refused z
 
 pub record Output (outcome : SheetOutcome) (count : ℕ) : Type 0 where
   pub output : List ℕ
   pub is : outcome ≡ accepted output
   pub counted : length output ≡ count
 
-pub accepted_told : (outcome : SheetOutcome) {told : SheetAnswer} {count : ℕ} → told ≡ answer_of outcome → told ≡ Accepted count → Output outcome count
-accepted_told (accepted output) d e = record { output = output; is = refl; counted = cc }
-accepted_told (refused refusal) d e = absurd (suc-ne-zero 0 (cc))
+pub accepted_told : (outcome : SheetOutcome) {count : ℕ} → Ok count ≡ answer_of outcome → Output outcome count
+accepted_told (accepted output) d = record { output = output; is = refl; counted = cc }
+accepted_told (refused refusal) d = absurd (suc-ne-zero 0 (cc))
 
 -- What is accepted after the check of a table: the table is good, and the output is what was due.
 pub accepted_is : (step : Step Room) (output : List ℕ) (entries : ℕ) {given : List ℕ} → if_good step output entries ≡ accepted given → part.Good step × (output ≡ given)
@@ -96,10 +89,10 @@ module _ (bytes : List ℕ) where
   abbrev words : List ℕ
   words = (sheet_of bytes).words
 
-  pub whole_so : {r : JudgedSheet} {count : ℕ} → r ≡ judged (sheet_of bytes) → r ≡ Words count → Whole bytes count
-  whole_so {r = r} {count = count} d e = go (sheet_of bytes).ending refl d
+  pub whole_so : {count : ℕ} → Ok count ≡ judged (sheet_of bytes) → Whole bytes count
+  whole_so {count = count} d = go (sheet_of bytes).ending refl d
     where
-      go : (ending : SheetEnding) → (sheet_of bytes).ending ≡ ending → r ≡ answer (length words) ending → Whole bytes count
+      go : (ending : SheetEnding) → (sheet_of bytes).ending ≡ ending → Ok count ≡ answer (length words) ending → Whole bytes count
       go whole is d = let n : length words ≡ count = cc in record { ends = is; counted = n }
       go (sheet.refused f p) is d = absurd (suc-ne-zero 0 (cc))
 
@@ -125,31 +118,30 @@ module _ (table : List ℕ) (entries : ℕ) where
   abbrev outcome : SheetOutcome
   outcome = if_good (checked table 0) table entries
 
-  pub table_refused : {q : SheetRefusal} → checked table 0 ≡ bad q → answers.Refused q ≡ answer_of outcome
+  pub table_refused : {q : SheetRefusal} → checked table 0 ≡ bad q → Err q ≡ answer_of outcome
   table_refused c = rw c refl
 
-  pub table_short : {r : Room} {j : ℕ} → checked table 0 ≡ good r j → entries < length table → answers.Refused (OutputTooShort (length table)) ≡ answer_of outcome
+  pub table_short : {r : Room} {j : ℕ} → checked table 0 ≡ good r j → entries < length table → Err (OutputTooShort (length table)) ≡ answer_of outcome
   table_short c h = rw (c, fitting_short OutputTooShort table entries h) refl
 
-  pub table_accepted : {r : Room} {j : ℕ} → checked table 0 ≡ good r j → length table ≤ entries → Accepted (length table) ≡ answer_of outcome
+  pub table_accepted : {r : Room} {j : ℕ} → checked table 0 ≡ good r j → length table ≤ entries → Ok (length table) ≡ answer_of outcome
   table_accepted c h = rw (c, fitting_whole OutputTooShort table entries h) refl
 
 -- Read by way of a list, which becomes `list'`.
 module _ (bytes list : List ℕ) (entries : ℕ) where
-  pub first_bad_number : {r : JudgedSheet} {f : Fault} {p : ℕ} → r ≡ judged (sheet_of bytes) → r ≡ judge.Refused f p
-      → answers.Refused (BadNumber f p) ≡ answer_of (reading_first (length list) bytes entries)
+  pub first_bad_number : {b : Bad} → Err b ≡ judged (sheet_of bytes)
+      → Err (BadNumber b.fault b.place) ≡ answer_of (reading_first (length list) bytes entries)
   unfolding reading_first
-  first_bad_number {r = r} {f = f} {p = p} d e = go (sheet_of bytes).ending d
+  first_bad_number {b = b} d = go (sheet_of bytes).ending d
     where
-      go : (ending : SheetEnding) → r ≡ answer (length (words bytes)) ending
-          → answers.Refused (BadNumber f p) ≡ answer_of (read_words (take (length list) (words bytes)) ending entries)
+      go : (ending : SheetEnding) → Err b ≡ answer (length (words bytes)) ending
+          → Err (BadNumber b.fault b.place) ≡ answer_of (read_words (take (length list) (words bytes)) ending entries)
       go whole d = absurd (suc-ne-zero 0 (cc))
       go (sheet.refused g q) d =
-          let a : g ≡ f = cc in
-          let b : q ≡ p = cc in
-          rw (a, b)
+          let e : b ≡ record { fault = g; place = q } = cc in
+          rw e refl
 
-  pub first_answered : {count front : ℕ} {list' : List ℕ} {told : SheetAnswer} → Whole bytes count → list' ≡ sets list 0 (words bytes) → front ≡ min count (length list')
+  pub first_answered : {count front : ℕ} {list' : List ℕ} {told : Result ℕ SheetRefusal} → Whole bytes count → list' ≡ sets list 0 (words bytes) → front ≡ min count (length list')
       → told ≡ answer_of (outcome (take front list') entries) → told ≡ answer_of (reading_first (length list) bytes entries)
   unfolding reading_first
   first_answered {front = front} {list' = list'} is e f a =
@@ -174,32 +166,24 @@ module _ (table : List ℕ) (entries : ℕ) where
     writing_good = rw c
 
     -- No word of a good table is too large, so that only the sheet's length decides.
-    fits : {answer : Written} → answer ≡ written table entries → answer ≡ fitted (length (bytes_of table)) entries
+    fits : {answer : Result ℕ Unwritten} → answer ≡ written table entries → answer ≡ fitted (length (bytes_of table)) entries
     fits e = e ∙ written_forms table entries (λ i. omega (arith, words_small table r j c i))
 
-    pub writing_bytes : {answer : Written} {count : ℕ} → answer ≡ written table entries → answer ≡ Bytes count
+    pub writing_bytes : {count : ℕ} → Ok count ≡ written table entries
         → (writing table entries ≡ accepted (bytes_of table)) × (length (bytes_of table) ≡ count)
-    writing_bytes {answer = answer} {count = count} e f = go (leb (length (bytes_of table)) entries) refl (fits e)
+    writing_bytes {count = count} e = go (leb (length (bytes_of table)) entries) refl (fits e)
       where
-        go : (t : Bool) → leb (length (bytes_of table)) entries ≡ t → answer ≡ cond t (Bytes (length (bytes_of table))) (TooShort (length (bytes_of table)))
+        go : (t : Bool) → leb (length (bytes_of table)) entries ≡ t → Ok count ≡ cond t (Ok (length (bytes_of table))) (Err (TooShort (length (bytes_of table))))
             → (writing table entries ≡ accepted (bytes_of table)) × (length (bytes_of table) ≡ count)
         go true t a = (writing_good ∙ fitting_whole OutputTooShort (bytes_of table) entries (leb-true (length (bytes_of table)) entries t), cc)
         go false t a = absurd (suc-ne-zero 0 (cc))
 
-    pub writing_short : {answer : Written} {needed : ℕ} → answer ≡ written table entries → answer ≡ TooShort needed
-        → writing table entries ≡ refused (OutputTooShort needed)
-    writing_short {answer = answer} {needed = needed} e f = go (leb (length (bytes_of table)) entries) refl (fits e)
+    pub writing_unwritten : {why : Unwritten} → Err why ≡ written table entries → writing table entries ≡ refused (unwritten_refusal why)
+    writing_unwritten {why = why} e = go (leb (length (bytes_of table)) entries) refl (fits e)
       where
-        go : (t : Bool) → leb (length (bytes_of table)) entries ≡ t → answer ≡ cond t (Bytes (length (bytes_of table))) (TooShort (length (bytes_of table)))
-            → writing table entries ≡ refused (OutputTooShort needed)
+        go : (t : Bool) → leb (length (bytes_of table)) entries ≡ t → Err why ≡ cond t (Ok (length (bytes_of table))) (Err (TooShort (length (bytes_of table))))
+            → writing table entries ≡ refused (unwritten_refusal why)
         go true t a = absurd (suc-ne-zero 0 (cc))
         go false t a =
-            let n : length (bytes_of table) ≡ needed = cc in
-            writing_good ∙ fitting_short OutputTooShort (bytes_of table) entries (leb-false (length (bytes_of table)) entries t) ∙ ap (λ (k : ℕ). refused (OutputTooShort k)) n
-
-    pub writing_large : {answer : Written} {index : ℕ} → answer ≡ written table entries → answer ≡ TooLarge index → ⊥
-    writing_large {answer = answer} e f = go (leb (length (bytes_of table)) entries) (fits e)
-      where
-        go : (t : Bool) → answer ≡ cond t (Bytes (length (bytes_of table))) (TooShort (length (bytes_of table))) → ⊥
-        go true a = suc-ne-zero 0 (cc)
-        go false a = suc-ne-zero 0 (cc)
+            let w : why ≡ TooShort (length (bytes_of table)) = cc in
+            rw w (writing_good ∙ fitting_short OutputTooShort (bytes_of table) entries (leb-false (length (bytes_of table)) entries t))

@@ -1,5 +1,5 @@
 -- Read and Write: what each comes to, as an answer and in the list or buffer lent.
-use Rattle.std.specs.Prelude.{List, ℕ, length, take}
+use Rattle.std.specs.Prelude.{Result, Ok, Err, List, ℕ, length, take}
 use Rattle.numbers.specs.Number.{fault_number}
 use Rattle.numbers.specs.Sheet.{SheetEnding, whole, sheet_of, bytes_of}
 use Rattle.numbers.specs.Sheet as sheet
@@ -12,8 +12,8 @@ use Rattle.rooms.specs.declared.SheetRefusal.{SheetRefusal}
 use Rattle.rooms.specs.declared.SheetRefusal.TheVariants.{BadNumber, WordMissing, WordOutOfRange}
 use Rattle.rooms.specs.declared.SheetRefusal.TheVariants.{GreatestBelowLeast, SharesNotWhole, WordsLeftOver}
 use Rattle.rooms.specs.declared.SheetRefusal.TheVariants.{LowsAboveLimit, OutputTooShort}
-use Rattle.rooms.specs.declared.SheetAnswer.{SheetAnswer}
-use Rattle.rooms.specs.declared.SheetAnswer.TheVariants.{Accepted, Refused}
+use Rattle.numbers.specs.declared.Unwritten.{Unwritten}
+use Rattle.numbers.specs.declared.Unwritten.TheVariants.{TooLarge, TooShort}
 
 -- ---- Numbers and places
 
@@ -39,14 +39,19 @@ sheet_refusal_place (WordsLeftOver place) = place
 sheet_refusal_place (LowsAboveLimit place) = place
 sheet_refusal_place (OutputTooShort place) = place
 
--- An answer's number, 0 if accepted, and its figure: the count written, or the refusal's place.
-abbrev pub sheet_number : SheetAnswer → ℕ
-sheet_number (Accepted count) = 0
-sheet_number (Refused refusal) = sheet_refusal_number refusal
+-- Why a sheet is not written, as a refusal. (No word of a good table is too large to be written.)
+abbrev pub unwritten_refusal : Unwritten → SheetRefusal
+unwritten_refusal (TooShort needed) = OutputTooShort needed
+unwritten_refusal (TooLarge index) = WordOutOfRange index
 
-abbrev pub sheet_figure : SheetAnswer → ℕ
-sheet_figure (Accepted count) = count
-sheet_figure (Refused refusal) = sheet_refusal_place refusal
+-- An answer's number, 0 if accepted, and its figure: the count written, or the refusal's place.
+abbrev pub sheet_number : Result ℕ SheetRefusal → ℕ
+sheet_number (Ok count) = 0
+sheet_number (Err refusal) = sheet_refusal_number refusal
+
+abbrev pub sheet_figure : Result ℕ SheetRefusal → ℕ
+sheet_figure (Ok count) = count
+sheet_figure (Err refusal) = sheet_refusal_place refusal
 
 -- ---- Outcomes
 
@@ -55,9 +60,9 @@ abbrev pub SheetOutcome : Type 0
 SheetOutcome = Outcome (List ℕ) SheetRefusal
 
 -- The answer to an outcome.
-abbrev pub answer_of : SheetOutcome → SheetAnswer
-answer_of (accepted output) = Accepted (length output)
-answer_of (refused refusal) = Refused refusal
+abbrev pub answer_of : SheetOutcome → Result ℕ SheetRefusal
+answer_of (accepted output) = Ok (length output)
+answer_of (refused refusal) = Err refusal
 
 -- An output for a list or buffer of so many entries, where the table is good. Refused: as the table is; else too short (12), at the
 -- length needed.

@@ -1,6 +1,6 @@
 -- What holds of Read, of Write and of the table's check, apart from any code.
 -- proofs/Promises.antt proves each: `RefusalNine` as `refusal_nine`, and so on.
-use Rattle.std.specs.Prelude.{◌≡◌, List, ◌↔◌, ℕ, suc, ◌-◌, ◌≤◌, ◌<◌, length}
+use Rattle.std.specs.Prelude.{◌≡◌, Result, List, ◌↔◌, ℕ, suc, ◌-◌, ◌≤◌, ◌<◌, length}
 use Rattle.figures.specs.Bounds.{AllBelow}
 use Rattle.numbers.specs.Sheet.{whole, sheet_of}
 use Rattle.rooms.specs.Part.{good, Good}
@@ -10,7 +10,7 @@ use Rattle.figures.specs.Figures.{at}
 use Rattle.rooms.specs.Words.{table_of, RoomInRange}
 use Rattle.outcomes.specs.Outcome.{accepted}
 use Rattle.rooms.specs.Outcome.{answer_of, sheet_number, sheet_figure, reading, reading_first, writing}
-use Rattle.rooms.specs.declared.SheetAnswer.{SheetAnswer}
+use Rattle.rooms.specs.declared.SheetRefusal.{SheetRefusal}
 
 -- ---- The table of a room
 
@@ -49,7 +49,7 @@ pub record Overloaded (w : List ℕ) (n : ℕ) : Type 0 where
   pub lowest : LowestExceeding room n
 
 -- The answer is refusal 9, at place n.
-abbrev pub IsNine : SheetAnswer → ℕ → Type 0
+abbrev pub IsNine : Result ℕ SheetRefusal → ℕ → Type 0
 IsNine answer n = (sheet_number answer ≡ 9) × (sheet_figure answer ≡ n)
 
 -- Refusal 9 comes exactly when the lows beneath some node exceed its limit, and names the lowest such node: in Write, and in

@@ -11,7 +11,7 @@ ghost use Rattle.rooms.specs.Told.{told, itself, nothing};
 
 use crate::form::{has_percents, scale_of};
 use crate::limits::carried_by;
-use crate::{Checked, MOST_WATTS, NEWEST_VERSION, SheetRefusal};
+use crate::{MOST_WATTS, NEWEST_VERSION, SheetRefusal};
 use figures::{credit, wide, word_index};
 
 // The figures of the table, as specs/Table.antt names them.
@@ -26,60 +26,56 @@ const MOST_SERVER_CORDS: u32 = crate::MOST_SERVER_CORDS as u32;
 const HIGHEST_RANK: u32 = crate::HIGHEST_RANK as u32;
 
 // The word at i, from low to high.
-fn check_word(w: &[u32], i: usize, low: u32, high: u32) -> Checked
+fn check_word(w: &[u32], i: usize, low: u32, high: u32) -> Result<(u32, usize), SheetRefusal>
     ensures result { result ≡ told itself (word (within low high) w.now i) }
 {
     if w.len() <= i {
-        return Checked::Refused(SheetRefusal::WordMissing(w.len()));
+        return Err(SheetRefusal::WordMissing(w.len()));
     }
     let v = w[i];
     if v < low {
-        return Checked::Refused(SheetRefusal::WordOutOfRange(i));
+        return Err(SheetRefusal::WordOutOfRange(i));
     }
     if high < v {
-        return Checked::Refused(SheetRefusal::WordOutOfRange(i));
+        return Err(SheetRefusal::WordOutOfRange(i));
     }
-    Checked::Good(v, i + 1)
+    Ok((v, i + 1))
 }
 
 // The word at i, a node's percent: 80 or 100.
-fn check_percent(w: &[u32], i: usize) -> Checked
+fn check_percent(w: &[u32], i: usize) -> Result<(u32, usize), SheetRefusal>
     ensures result { result ≡ told nothing (percent true w.now i) }
 {
-    let percent = check_word(w, i, 80, 100);
-    let Checked::Good(v, next) = percent else {
-        return percent;
-    };
+    let (v, next) = check_word(w, i, 80, 100)?;
     if v == 80 {
-        return Checked::Good(0, next);
+        return Ok((0, next));
     }
     if v == 100 {
-        return Checked::Good(0, next);
+        return Ok((0, next));
     }
-    Checked::Refused(SheetRefusal::WordOutOfRange(i))
+    Err(SheetRefusal::WordOutOfRange(i))
 }
 
 // The node at i, with its own number; whether it has a word for its percent.
-fn check_node(w: &[u32], i: usize, percents: bool, own: u32) -> Checked
+fn check_node(w: &[u32], i: usize, percents: bool, own: u32) -> Result<(u32, usize), SheetRefusal>
     requires own { 0 < own }
     ensures result { result ≡ told nothing (node percents own w.now i) }
 {
-    let parent = check_word(w, i, 0, own - 1);
-    let Checked::Good(_, at_rating) = parent else {
-        return parent;
-    };
-    let rating = check_word(w, at_rating, 0, MOST_WATTS);
-    let Checked::Good(_, next) = rating else {
-        return rating;
-    };
+    let (_, at_rating) = check_word(w, i, 0, own - 1)?;
+    let (_, next) = check_word(w, at_rating, 0, MOST_WATTS)?;
     if percents {
         return check_percent(w, next);
     }
-    Checked::Good(0, next)
+    Ok((0, next))
 }
 
 // So many nodes from i on, numbered from 1.
-fn check_nodes(w: &[u32], i: usize, percents: bool, count: u32) -> Checked
+fn check_nodes(
+    w: &[u32],
+    i: usize,
+    percents: bool,
+    count: u32,
+) -> Result<(u32, usize), SheetRefusal>
     requires count { count ≤ most_nodes }
     ensures result { result ≡ told nothing (nodes percents count 1 w.now i) }
 {
@@ -87,25 +83,24 @@ fn check_nodes(w: &[u32], i: usize, percents: bool, count: u32) -> Checked
     let mut own: u32 = 1;
     let mut j = i;
     while 0 < left {
-        let node = check_node(w, j, percents, own);
-        let Checked::Good(_, next) = node else {
-            return node;
-        };
+        let (_, next) = check_node(w, j, percents, own)?;
         j = next;
         own += 1;
         left -= 1;
     }
-    Checked::Good(0, j)
+    Ok((0, j))
 }
 
 // The cord at i, and its share.
-fn check_cord(w: &[u32], i: usize, scale: u32, node_count: u32) -> Checked
+fn check_cord(
+    w: &[u32],
+    i: usize,
+    scale: u32,
+    node_count: u32,
+) -> Result<(u32, usize), SheetRefusal>
     ensures result { result ≡ told share_of (cord scale node_count w.now i) }
 {
-    let node = check_word(w, i, 1, node_count);
-    let Checked::Good(_, at_share) = node else {
-        return node;
-    };
+    let (_, at_share) = check_word(w, i, 1, node_count)?;
     check_word(w, at_share, 0, scale)
 }
 
@@ -118,7 +113,7 @@ fn check_cords(
     count: u32,
     least: u32,
     sums: &mut [u64],
-) -> Checked
+) -> Result<(u32, usize), SheetRefusal>
     requires in_range { IsScale scale × (count ≤ most_server_cords) × (least ≤ most_watts) }
     requires sums_fit { (node_count ≤ length sums.old) × (sum node_count (at sums.old) + most_watts * count < 2 ^ 63) }
     ensures result { result ≡ told share_sum (cords scale node_count count w.now i) }
@@ -129,35 +124,26 @@ fn check_cords(
     let mut sum: u32 = 0;
     let mut j = i;
     while 0 < left {
-        let cord = check_cord(w, j, scale, node_count);
-        let Checked::Good(share, next) = cord else {
-            return cord;
-        };
+        let (share, next) = check_cord(w, j, scale, node_count)?;
         let low = carried_by(share, least, scale);
         credit(sums, word_index(w[j]), wide(low));
         sum += share;
         j = next;
         left -= 1;
     }
-    Checked::Good(sum, j)
+    Ok((sum, j))
 }
 
 // The least and the greatest of a server, from i on; the least is told.
-fn check_range(w: &[u32], i: usize) -> Checked
+fn check_range(w: &[u32], i: usize) -> Result<(u32, usize), SheetRefusal>
     ensures result { result ≡ told least_of (range w.now i) }
 {
-    let first = check_word(w, i, 0, MOST_WATTS);
-    let Checked::Good(least, at_greatest) = first else {
-        return first;
-    };
-    let second = check_word(w, at_greatest, 0, MOST_WATTS);
-    let Checked::Good(greatest, next) = second else {
-        return second;
-    };
+    let (least, at_greatest) = check_word(w, i, 0, MOST_WATTS)?;
+    let (greatest, next) = check_word(w, at_greatest, 0, MOST_WATTS)?;
     if greatest < least {
-        return Checked::Refused(SheetRefusal::GreatestBelowLeast(at_greatest));
+        return Err(SheetRefusal::GreatestBelowLeast(at_greatest));
     }
-    Checked::Good(least, next)
+    Ok((least, next))
 }
 
 // The lesser of two numbers.
@@ -177,25 +163,19 @@ fn check_load(
     start: usize,
     least: u32,
     sums: &mut [u64],
-) -> Checked
+) -> Result<(u32, usize), SheetRefusal>
     requires in_range { IsScale scale × (before ≤ most_cords) × (least ≤ most_watts) }
     requires sums_fit { (node_count ≤ length sums.old) × (sum node_count (at sums.old) + most_server_cords * most_watts < 2 ^ 63) }
     ensures result { result ≡ told length (load scale node_count before start w.now i) }
     ensures credited { LowsCredited (load scale node_count before start w.now i) (credited_cords scale least) node_count
         (most_server_cords * most_watts) sums.old sums.new }
 {
-    let first = check_word(w, i, 1, lesser(MOST_SERVER_CORDS, MOST_CORDS - before));
-    let Checked::Good(count, at_cords) = first else {
-        return first;
-    };
-    let cords = check_cords(w, at_cords, scale, node_count, count, least, sums);
-    let Checked::Good(shares, next) = cords else {
-        return cords;
-    };
+    let (count, at_cords) = check_word(w, i, 1, lesser(MOST_SERVER_CORDS, MOST_CORDS - before))?;
+    let (shares, next) = check_cords(w, at_cords, scale, node_count, count, least, sums)?;
     if shares != scale {
-        return Checked::Refused(SheetRefusal::SharesNotWhole(start));
+        return Err(SheetRefusal::SharesNotWhole(start));
     }
-    Checked::Good(count, next)
+    Ok((count, next))
 }
 
 // The server at i, and the count of its cords; the room has `before` cords so far.
@@ -206,21 +186,15 @@ fn check_server(
     node_count: u32,
     before: u32,
     sums: &mut [u64],
-) -> Checked
+) -> Result<(u32, usize), SheetRefusal>
     requires in_range { IsScale scale × (before ≤ most_cords) × (node_count ≤ length sums.old)
         × (sum node_count (at sums.old) + most_server_cords * most_watts < 2 ^ 63) }
     ensures result { result ≡ told cord_count (server scale node_count before w.now i) }
     ensures credited { LowsCredited (server scale node_count before w.now i) (credited_server scale) node_count
         (most_server_cords * most_watts) sums.old sums.new }
 {
-    let rank = check_word(w, i, 1, HIGHEST_RANK);
-    let Checked::Good(_, at_range) = rank else {
-        return rank;
-    };
-    let range = check_range(w, at_range);
-    let Checked::Good(least, at_load) = range else {
-        return range;
-    };
+    let (_, at_range) = check_word(w, i, 1, HIGHEST_RANK)?;
+    let (least, at_load) = check_range(w, at_range)?;
     check_load(w, at_load, scale, node_count, before, i, least, sums)
 }
 
@@ -232,7 +206,7 @@ fn check_servers(
     node_count: u32,
     count: u32,
     sums: &mut [u64],
-) -> Checked
+) -> Result<(u32, usize), SheetRefusal>
     requires in_range { IsScale scale × (node_count ≤ length sums.old)
         × (sum node_count (at sums.old) + most_server_cords * most_watts * count < 2 ^ 63) }
     ensures result { result ≡ told (total cord_count) (servers scale node_count count 0 w.now i) }
@@ -243,47 +217,29 @@ fn check_servers(
     let mut before: u32 = 0;
     let mut j = i;
     while 0 < left {
-        let server = check_server(w, j, scale, node_count, before, sums);
-        let Checked::Good(cords, next) = server else {
-            return server;
-        };
+        let (cords, next) = check_server(w, j, scale, node_count, before, sums)?;
         before += cords;
         j = next;
         left -= 1;
     }
-    Checked::Good(before, j)
+    Ok((before, j))
 }
 
 // The whole table, and the count of its cords. The sums, 0 at first, get the lows of the cords on each node.
-pub(crate) fn check_table(w: &[u32], sums: &mut [u64]) -> Checked
+pub(crate) fn check_table(w: &[u32], sums: &mut [u64]) -> Result<(u32, usize), SheetRefusal>
     requires zeros { (most_nodes ≤ length sums.old) × ((i : ℕ) → get_or sums.old i 0 ≡ 0) }
     ensures result { result ≡ told room_cords (table w.now 0) }
     ensures credited { LowsCredited (table w.now 0) credited_room (get_or w.now 1 0)
         (most_server_cords * most_watts * most_servers) sums.old sums.new }
 {
-    let first = check_word(w, 0, 1, NEWEST_VERSION);
-    let Checked::Good(version, at_nodes) = first else {
-        return first;
-    };
-    let second = check_word(w, at_nodes, 1, MOST_NODES);
-    let Checked::Good(node_count, first_node) = second else {
-        return second;
-    };
-    let nodes = check_nodes(w, first_node, has_percents(version), node_count);
-    let Checked::Good(_, at_servers) = nodes else {
-        return nodes;
-    };
-    let third = check_word(w, at_servers, 0, MOST_SERVERS);
-    let Checked::Good(server_count, first_server) = third else {
-        return third;
-    };
+    let (version, at_nodes) = check_word(w, 0, 1, NEWEST_VERSION)?;
+    let (node_count, first_node) = check_word(w, at_nodes, 1, MOST_NODES)?;
+    let (_, at_servers) = check_nodes(w, first_node, has_percents(version), node_count)?;
+    let (server_count, first_server) = check_word(w, at_servers, 0, MOST_SERVERS)?;
     let scale = scale_of(version);
-    let servers = check_servers(w, first_server, scale, node_count, server_count, sums);
-    let Checked::Good(cords, next) = servers else {
-        return servers;
-    };
+    let (cords, next) = check_servers(w, first_server, scale, node_count, server_count, sums)?;
     if next < w.len() {
-        return Checked::Refused(SheetRefusal::WordsLeftOver(next));
+        return Err(SheetRefusal::WordsLeftOver(next));
     }
-    Checked::Good(cords, next)
+    Ok((cords, next))
 }

@@ -3,7 +3,8 @@ use mathlib.Core.Path.{refl, ap, ◌∙◌}
 use native.Mathlib.Omega.{arith}
 use Rattle.std.proofs.Common.{length, ◌≤◌}
 use Rattle.numbers.specs.Sheet.{bytes_of}
-use Rattle.numbers.specs.declared.Written.TheVariants.{Bytes, TooLarge, TooShort}
+use Rattle.std.specs.Prelude.{ℕ, Ok, Err}
+use Rattle.numbers.specs.declared.Unwritten.TheVariants.{TooLarge, TooShort}
 use Rattle.numbers.proofs.SheetLaws.{length-bytes_of≤, forms_below, written_large, written_short, written_whole}
 use Rattle.numbers.proofs.encode_sheet.Goals as goal
 use Rattle.numbers.proofs.encode_sheet.Goals.{then-sheet-words+else-sheet-needed, else-sheet-words}
@@ -11,14 +12,14 @@ use Rattle.numbers.proofs.encode_sheet.Goals.{then-sheet-words+else-sheet-needed
 pub returns-then-large-words : goal.returns-then-large-words
 returns-then-large-words c =
     record {
-      result = ap TooLarge c.first_not_below-large.ensures.result ∙ written_large _ _ (omega arith);
+      result = ap (λ (k : ℕ). Err (TooLarge k)) c.first_not_below-large.ensures.result ∙ written_large _ _ (omega arith);
       sheet = refl;
     }
 
 pub returns-then-sheet-needed : goal.returns-then-sheet-needed
 returns-then-sheet-needed c =
     record {
-      result = ap TooShort c.total_size-needed.ensures.result ∙ written_short _ _ (omega (arith, c.first_not_below-large.ensures.result)) (omega arith);
+      result = ap (λ (k : ℕ). Err (TooShort k)) c.total_size-needed.ensures.result ∙ written_short _ _ (omega (arith, c.first_not_below-large.ensures.result)) (omega arith);
       sheet = refl;
     }
 
@@ -37,4 +38,4 @@ returns-clause-result c =
       | then-sheet-words+else-sheet-needed w ↦ omega (arith, w.total_size-needed.ensures.result)
       | else-sheet-words w ↦ omega (arith, length-bytes_of≤ c.args.words.now)
     ] in
-    ap Bytes c.put_all.ensures.count ∙ written_whole c.args.words.now _ (omega (arith, c.first_not_below-large.ensures.result)) fits
+    ap (λ (k : ℕ). Ok k) c.put_all.ensures.count ∙ written_whole c.args.words.now _ (omega (arith, c.first_not_below-large.ensures.result)) fits

@@ -1,23 +1,18 @@
 -- `check_lows` meets its contract: a good table leaves the lows beneath each node, and a refused one's are cleared.
-use mathlib.Core.Path.{sym, ap, ◌∙◌}
-use Rattle.rooms.specs.Limits.{lows_told}
-use Rattle.rooms.proofs.Steps.{known}
-use Rattle.rooms.proofs.Outcomes.{refused_so}
+use mathlib.Core.Path.{sym, ◌∙◌}
+use Rattle.rooms.proofs.Found.{lows_cleared, lows_kept}
 use Rattle.rooms.proofs.parts.check_lows.Goals as goal
 
-pub returns-in-Refused : goal.returns-in-Refused
-unfolding lows_told
-returns-in-Refused c =
+pub returns-then-is_err : goal.returns-then-is_err
+returns-then-is_err c =
     record {
       result = c.check_summing-checked.ensures.result;
-      lows = c.clear-in-Refused.ensures.zeros ∙ sym (ap lows_told (refused_so _ _ c.check_summing-checked.ensures.result c.in-Refused.is));
+      lows = lows_cleared _ c.check_summing-checked.ensures.result (sym c.is_err.ensures.value ∙ c.if-is_err.true) c.clear-then-is_err.ensures.zeros;
     }
 
-pub returns : goal.returns
-unfolding lows_told
-returns c =
-    let room = known _ _ c.check_summing-checked.ensures.result c.in_default.is in
+pub returns-else-is_err : goal.returns-else-is_err
+returns-else-is_err c =
     record {
       result = c.check_summing-checked.ensures.result;
-      lows = c.check_summing-checked.ensures.lows room.got _ room.is ∙ sym (ap lows_told room.is);
+      lows = lows_kept _ c.check_summing-checked.ensures.result (sym c.is_err.ensures.value ∙ c.if-is_err.false) c.check_summing-checked.ensures.lows;
     }

@@ -1,12 +1,13 @@
 -- `read_words` meets its contract: the words that the list takes are at its front, and are answered for.
+use Rattle.rooms.proofs.Steps.{passed_on}
 use Rattle.rooms.proofs.Outcomes.{whole_so, front_length, first_bad_number, first_answered}
 use Rattle.rooms.proofs.parts.read_words.Goals as goal
 
-pub returns-in-Refused : goal.returns-in-Refused
-returns-in-Refused c =
+pub returns-in_err-count : goal.returns-in_err-count
+returns-in_err-count c =
     record {
-      result = first_bad_number c.args.sheet.now c.args.words.now c.args.space c.decode_sheet-judged.ensures.result c.in-Refused.is;
-      words = c.decode_sheet-judged.ensures.words;
+      result = passed_on c.from_residual.ensures.1 (first_bad_number c.args.sheet.now c.args.words.now c.args.space c.in_err-count.ensures.result);
+      words = c.decode_sheet.ensures.words;
     }
 
 pub slice_bounds-answer_for-end-2 : goal.slice_bounds-answer_for-end-2
@@ -15,6 +16,6 @@ slice_bounds-answer_for-end-2 c = front_length _ _ c.least-front.ensures.result
 pub returns : goal.returns
 returns c =
     record {
-      result = first_answered c.args.sheet.now c.args.words.now c.args.space (whole_so _ c.decode_sheet-judged.ensures.result c.in-Words.is) c.decode_sheet-judged.ensures.words c.least-front.ensures.result c.answer_for.ensures.result;
-      words = c.decode_sheet-judged.ensures.words;
+      result = first_answered c.args.sheet.now c.args.words.now c.args.space (whole_so _ c.in_ok-count.ensures.result) c.decode_sheet.ensures.words c.least-front.ensures.result c.answer_for.ensures.result;
+      words = c.decode_sheet.ensures.words;
     }

@@ -2,12 +2,12 @@
 use mathlib.Core.Path.{refl}
 use Rattle.rooms.specs.Table.{percent}
 use Rattle.rooms.proofs.NodeWords.{is_eighty, is_hundred, is_neither}
-use Rattle.rooms.proofs.Steps.{stop, pass_word, pass_value, ensured, denied, gives}
+use Rattle.rooms.proofs.Steps.{passed_on, stop, pass_word, pass_value, ensured, denied, gives}
 use Rattle.rooms.proofs.table.check_percent.Goals as goal
 
-pub returns-in_default : goal.returns-in_default
+pub returns-in_err-v : goal.returns-in_err-v
 unfolding percent
-returns-in_default c = record { result = pass_value _ _ _ _ (stop _ _ _ _ c.check_word-percent.ensures.result c.in_default.is) }
+returns-in_err-v c = record { result = passed_on c.from_residual.ensures.1 (pass_value _ _ _ _ (stop _ _ _ _ c.in_err-v.ensures.result)) }
 
 pub returns-then-v-eq80 : goal.returns-then-v-eq80
 unfolding percent
@@ -15,7 +15,7 @@ returns-then-v-eq80 c =
     record {
       result =
           pass_value _ _ _ _
-          (pass_word _ _ _ c.check_word-percent.ensures.result c.in-Good.is
+          (pass_word _ _ _ c.in_ok-v.ensures.result
           (ensured _ _ _ _ _ _ (is_eighty _ c.if-v-eq80.true) (gives _ _ _ refl)));
     }
 
@@ -25,7 +25,7 @@ returns-then-v-eq100 c =
     record {
       result =
           pass_value _ _ _ _
-          (pass_word _ _ _ c.check_word-percent.ensures.result c.in-Good.is
+          (pass_word _ _ _ c.in_ok-v.ensures.result
           (ensured _ _ _ _ _ _ (is_hundred _ c.if-v-eq80.false c.if-v-eq100.true) (gives _ _ _ refl)));
     }
 
@@ -35,6 +35,6 @@ returns c =
     record {
       result =
           pass_value _ _ _ _
-          (pass_word _ _ _ c.check_word-percent.ensures.result c.in-Good.is
+          (pass_word _ _ _ c.in_ok-v.ensures.result
           (denied _ _ _ _ _ _ (is_neither _ c.if-v-eq80.false c.if-v-eq100.false)));
     }

@@ -3,25 +3,25 @@ use mathlib.Core.Path.{refl}
 use native.Mathlib.Omega.{arith}
 use Rattle.rooms.specs.Table.{server}
 use Rattle.rooms.proofs.Inversion.{range_is}
-use Rattle.rooms.proofs.Steps.{known, stop, pass_known, pass_word, pass_value, last}
+use Rattle.rooms.proofs.Steps.{passed_on, known, stop, pass_known, pass_word, pass_value, last}
 use Rattle.rooms.proofs.CreditTurns.{stopped, server_credits}
 use Rattle.rooms.proofs.table.check_server.Goals as goal
 
-pub returns-in_default : goal.returns-in_default
+pub returns-in_err-at_range : goal.returns-in_err-at_range
 unfolding server
-returns-in_default c =
-    let both = stopped _ _ (pass_value _ _ _ _ (stop _ _ _ _ c.check_word-rank.ensures.result c.in_default.is)) c.in_default.is in
-    record { result = both.0; credited = both.1 }
+returns-in_err-at_range c =
+    let both = stopped _ _ (pass_value _ _ _ _ (stop _ _ _ _ c.in_err-at_range.ensures.result)) in
+    record { result = passed_on c.from_residual.ensures.1 both.0; credited = both.1 }
 
-pub returns-in_default-range : goal.returns-in_default-range
+pub returns-in_err-least : goal.returns-in_err-least
 unfolding server
-returns-in_default-range c =
-    let both = stopped _ _ (pass_value _ _ _ _ (pass_word _ _ _ c.check_word-rank.ensures.result c.in-Good.is (stop _ _ _ _ c.check_range-range.ensures.result c.in_default-range.is))) c.in_default-range.is in
-    record { result = both.0; credited = both.1 }
+returns-in_err-least c =
+    let both = stopped _ _ (pass_value _ _ _ _ (pass_word _ _ _ c.in_ok-at_range.ensures.result (stop _ _ _ _ c.in_err-least.ensures.result))) in
+    record { result = passed_on c.from_residual-in_err-least.ensures.1 both.0; credited = both.1 }
 
 pub check_load-requires : goal.check_load-requires
 check_load-requires c =
-    let range = known _ _ c.check_range-range.ensures.result c.in-Good-range.is in
+    let range = known _ _ c.in_ok-least.ensures.result in
     let ends = range_is _ _ range.got _ range.is in
     record {
       in_range = (c.requires.in_range.0, c.requires.in_range.1, omega (arith, range.figure, ends.ordered, ends.greatest));
@@ -31,9 +31,9 @@ check_load-requires c =
 pub returns : goal.returns
 unfolding server
 returns c =
-    let rank = known _ _ c.check_word-rank.ensures.result c.in-Good.is in
-    let range = known _ _ c.check_range-range.ensures.result c.in-Good-range.is in
+    let rank = known _ _ c.in_ok-at_range.ensures.result in
+    let range = known _ _ c.in_ok-least.ensures.result in
     record {
-      result = pass_value _ _ _ _ (pass_word _ _ _ c.check_word-rank.ensures.result c.in-Good.is (pass_known _ _ _ _ range (last _ _ _ _ (λ _. refl) c.check_load.ensures.result)));
+      result = pass_value _ _ _ _ (pass_word _ _ _ c.in_ok-at_range.ensures.result (pass_known _ _ _ _ range (last _ _ _ _ (λ _. refl) c.check_load.ensures.result)));
       credited = server_credits _ _ _ _ _ rank.is range.is range.figure c.check_load.ensures.credited;
     }

@@ -1,5 +1,3 @@
 -- What a reader must believe of Read and Write, called from C.
 pub mod Call
 pub mod Promises
--- Cited by contracts of private functions alone.
-pub mod Counts

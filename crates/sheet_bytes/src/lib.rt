@@ -4,10 +4,9 @@
 ghost use Rattle.std.specs.Prelude.{◌≡◌, suc, ◌≤◌, length};
 ghost use Rattle.rooms.specs.Table.{most_words};
 ghost use Rattle.sheet_bytes.specs.Call.{ReadCall, WriteCall};
-ghost use Rattle.sheet_bytes.specs.Counts.{written_count};
 
 use calls::ANSWER_BYTES;
-use rooms::{DECIDING_WORDS, SheetAnswer};
+use rooms::DECIDING_WORDS;
 
 // Read, called from C: the words of the sheet, at the front of the table, and the answer in a buffer of its own. Returns 1; or 0 where
 // that buffer is too short.
@@ -35,9 +34,10 @@ fn read_by(sheet: &[u8], words: &mut [u32], table: &mut [u8], answer: &mut [u8])
         return 0;
     }
     let read = rooms::parts::read_words(sheet, words, table.len() / 4);
-    let count = written_count(read);
+    // No word is stored where the sheet is refused.
+    let count = read.unwrap_or(0);
     words::store(&words[..count], table);
-    calls::store_answer(read.number(), read.figure() as u64, answer);
+    calls::tell(read, answer);
     1
 }
 
@@ -51,16 +51,6 @@ fn write_by(table: &[u8], words: &mut [u32], sheet: &mut [u8], answer: &mut [u8]
     }
     let count = words::load(table, words);
     let written = rooms::write(&words[..count], sheet);
-    calls::store_answer(written.number(), written.figure() as u64, answer);
+    calls::tell(written, answer);
     1
-}
-
-// How many entries an answer says were written: none where refused.
-fn written_count(told: SheetAnswer) -> usize
-    ensures counted { result ≡ written_count told }
-{
-    match told {
-        SheetAnswer::Accepted(count) => count,
-        SheetAnswer::Refused(_) => 0,
-    }
 }

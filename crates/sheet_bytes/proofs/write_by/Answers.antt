@@ -2,20 +2,16 @@
 use native.Mathlib.Omega.{arith}
 use mathlib.Core.Path.{refl}
 use Rattle.calls.proofs.Calls.{call_short}
-use Rattle.calls.proofs.Fronts.{loaded-length}
 use Rattle.sheet_bytes.proofs.CallLaws.{write_done}
 use Rattle.sheet_bytes.proofs.write_by.Goals as goal
 
 pub returns-then-answer-lt-ANSWER_BYTES : goal.returns-then-answer-lt-ANSWER_BYTES
 returns-then-answer-lt-ANSWER_BYTES c = record { called = call_short _ _ _ (omega arith) refl }
 
-pub slice_bounds-write-end-2 : goal.slice_bounds-write-end-2
-slice_bounds-write-end-2 c = loaded-length _ _ c.load-count.ensures.count c.load-count.ensures.loaded
-
 pub returns : goal.returns
 returns c =
     record {
       called =
           write_done c.args.table.now c.args.words.now c.load-count.ensures.count c.load-count.ensures.loaded c.args.sheet.now c.args.answer.now c.requires.deciding
-          (omega (arith, c.if-answer-lt-ANSWER_BYTES.false)) c.write-written.ensures.result c.write-written.ensures.sheet c.number.ensures.result c.figure.ensures.result c.store_answer.ensures.stored;
+          (omega (arith, c.if-answer-lt-ANSWER_BYTES.false)) c.write-written.ensures.result c.write-written.ensures.sheet c.tell.ensures.told;
     }

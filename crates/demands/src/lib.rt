@@ -6,8 +6,6 @@ ghost use Prim.Native.Nat.{};
 ghost use Rattle.demands.specs.Reading.{empty_line, extended, has_byte, line_demand, held_reading, with};
 ghost use Rattle.demands.specs.Reading.{closed, fed_byte, fed, finished, held_count, is_full};
 
-use figures::counts::least;
-
 // One demand more than a room may have servers: so many decide every demand list, and no more lines are read.
 pub const DECIDING_DEMANDS: usize = 513;
 
@@ -18,6 +16,7 @@ const MOST_DIGITS: u32 = 8;
 const NO_DEMAND: u32 = 16_777_216;
 
 // What a line has come to so far.
+// By hand: as an Option of digits it would have no methods, and no name for what is not digits.
 #[derive(Clone, Copy)]
 pub enum DemandLine {
     // Digits alone: how many, and their number.
@@ -39,22 +38,11 @@ impl DemandLine {
         ensures result { result ≡ extended self byte }
     {
         match self {
-            DemandLine::Digits(count, number) => {
-                if b'0' <= byte {
-                    if byte <= b'9' {
-                        if count < MOST_DIGITS {
-                            if number < 10_000_000 {
-                                return DemandLine::Digits(
-                                    count + 1,
-                                    number * 10 + ((byte - b'0') as u32),
-                                );
-                            }
-                        }
-                    }
-                }
-                DemandLine::Other
+            DemandLine::Digits(count, number)
+                if byte.is_ascii_digit() && count < MOST_DIGITS && number < 10_000_000 => {
+                DemandLine::Digits(count + 1, number * 10 + u32::from(byte - b'0'))
             }
-            DemandLine::Other => DemandLine::Other,
+            _ => DemandLine::Other,
         }
     }
 
@@ -62,10 +50,7 @@ impl DemandLine {
     fn has_byte(self) -> bool
         ensures result { result ≡ has_byte self }
     {
-        match self {
-            DemandLine::Digits(count, _) => 1 <= count,
-            DemandLine::Other => true,
-        }
+        !matches!(self, DemandLine::Digits(0, _))
     }
 
     // The line's demand.
@@ -73,8 +58,8 @@ impl DemandLine {
         ensures result { result ≡ line_demand self }
     {
         match self {
-            DemandLine::Digits(count, number) => { if 1 <= count { number } else { NO_DEMAND } }
-            DemandLine::Other => NO_DEMAND,
+            DemandLine::Digits(count, number) if 0 < count => number,
+            _ => NO_DEMAND,
         }
     }
 }
@@ -95,9 +80,8 @@ impl DemandReading {
         ensures fed { held_reading result list.new ≡ fed (held_reading self list.old) piece.now }
     {
         let mut reading = self;
-        for i in 0..piece.len() {
-            let next = reading.feed_byte(piece[i], list);
-            reading = next;
+        for byte in piece {
+            reading = reading.feed_byte(*byte, list);
         }
         reading
     }
@@ -107,12 +91,12 @@ impl DemandReading {
         ensures list { list.new ≡ (finished (held_reading self list.old)).list }
         ensures count { result ≡ held_count (finished (held_reading self list.old)) }
     {
-        let line = self.line;
-        if line.has_byte() {
-            let last = self.close(list);
-            return least(last.count, list.len());
-        }
-        least(self.count, list.len())
+        let last = if self.line.has_byte() {
+            self.close(list)
+        } else {
+            self
+        };
+        last.count.min(list.len())
     }
 
     // Whether 513 lines are read, so that no further byte makes a difference.
@@ -129,10 +113,9 @@ impl DemandReading {
         if byte == b'\n' {
             return self.close(list);
         }
-        let line = self.line;
         DemandReading {
             count: self.count,
-            line: line.extend(byte),
+            line: self.line.extend(byte),
         }
     }
 
@@ -140,14 +123,10 @@ impl DemandReading {
     fn close(self, list: &mut [u32]) -> DemandReading
         ensures closed { held_reading result list.new ≡ closed (held_reading self list.old) }
     {
-        let count = self.count;
-        let line = self.line;
-        if count < least(DECIDING_DEMANDS, list.len()) {
-            list[count] = line.demand();
-            return DemandReading {
-                count: count + 1,
-                line: DemandLine::Digits(0, 0),
-            };
+        let mut count = self.count;
+        if count < DECIDING_DEMANDS.min(list.len()) {
+            list[count] = self.line.demand();
+            count += 1;
         }
         DemandReading {
             count,

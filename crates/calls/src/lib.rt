@@ -36,6 +36,14 @@ impl Figures<1> for usize {
     }
 }
 
+impl<const N: usize> Figures<N> for [u64; N] {
+    ghost figures_of = { λ figures. figures };
+
+    fn figures(self) -> [u64; N] {
+        self
+    }
+}
+
 // An answer of up to N + 1 numbers: 0 and the figures of a result, or a refusal's number and place. A buffer that is too short for so many
 // is left alone.
 pub fn tell<const N: usize, A: Figures<N>, R: Refusal>(answer: Result<A, R>, buffer: &mut [u8])

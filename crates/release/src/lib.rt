@@ -7,6 +7,7 @@ ghost use Rattle.std.proofs.lemmas.List.Edits.{sets};
 ghost use Rattle.release.specs.Release.{mark, decimal, release_number, ReleaseCall};
 
 use calls::LONG_ANSWER_BYTES;
+use std::convert::Infallible;
 
 const MARK_BYTES: usize = 32;
 
@@ -21,8 +22,8 @@ pub fn release_bytes(answer: &mut [u8]) -> u32
     if answer.len() < LONG_ANSWER_BYTES {
         return 0;
     }
-    let number = release_number(figures::counts::least(answer.len(), MARK_BYTES));
-    calls::store_long_answer(0, number, NEWEST_VERSION, answer);
+    let number = release_number(answer.len().min(MARK_BYTES));
+    calls::tell::<2, _, Infallible>(Ok([number, NEWEST_VERSION]), answer);
     1
 }
 
@@ -44,8 +45,8 @@ fn show_mark(seen: usize, text: &mut [u8])
     requires fits { seen ≤ length text.old }
     ensures shown { text.new ≡ sets text.old 0 (take seen mark) }
 {
-    for i in 0..seen {
-        text[i] = mark_byte(i as u32);
+    for (i, byte) in text[..seen].iter_mut().enumerate() {
+        *byte = mark_byte(i as u32);
     }
 }
 
@@ -54,7 +55,10 @@ fn decimal_of(a: u8, b: u8, c: u8, d: u8) -> u64
     requires digits { (48 ≤ a) × (48 ≤ b) × (48 ≤ c) × (48 ≤ d) }
     ensures result { result ≡ decimal a b c d }
 {
-    1000 * (a as u64 - 48) + 100 * (b as u64 - 48) + 10 * (c as u64 - 48) + (d as u64 - 48)
+    1000 * u64::from(a - b'0')
+        + 100 * u64::from(b - b'0')
+        + 10 * u64::from(c - b'0')
+        + u64::from(d - b'0')
 }
 
 // The byte of the mark at a place: hutplan release 0002 by Yerkozan. The compiler makes a constant table of these lines, and there alone: a

@@ -7,17 +7,17 @@ use native.Mathlib.Nat.{zero-add, suc-ne-zero}
 use native.Mathlib.Omega.{arith}
 use lib.ListN.{length, get_or, replicate, length-replicate}
 use lib.Seq.{ext_get_or}
-use lib.Dec.{ltb}
-use borrow.Author.Tests.{ltb-true, ltb-false}
+use lib.Dec.{eqb, ltb}
+use borrow.Author.Tests.{ltb-true, ltb-false, ne_eqb}
 use Rattle.rooms.specs.Part.{Step, good, bad}
 use Rattle.rooms.specs.Table.{Node, Room, most_nodes, most_servers, most_server_cords, most_watts, form_of, nodes, servers, table, room_cords}
-use Rattle.rooms.specs.Limits.{limit, node_at, parent_of, lows, lows_beneath, lows_from, node_lows, first_node, overloaded, lows_told}
+use Rattle.rooms.specs.Limits.{limit, node_at, parent_of, lows, lows_beneath, lows_from, node_lows, first_node, overloaded, found_node, lows_told}
 use Rattle.rooms.specs.Trees.{beneath}
 use Rattle.rooms.specs.Credits.{node_index, parent_at, limit_at, tree_sum, exceeds, credited_servers, credited_room, LowsCredited, SumsGathered}
 use Rattle.figures.specs.Figures.{at}
 use Rattle.rooms.specs.Told.{told}
 use Rattle.rooms.specs.declared.SheetRefusal.{SheetRefusal}
-use Rattle.std.specs.Prelude.{Result, Err}
+use Rattle.std.specs.Prelude.{Option, Some, None, Result, Err}
 use Rattle.std.specs.Result.{is_err}
 use Rattle.rooms.proofs.Places.{Layout, layout, same_parent, same-limit, table_rises, node-count}
 use Rattle.rooms.proofs.Whole.{percents_of}
@@ -119,14 +119,14 @@ table_credits w {percents} {scale} {node_count} {at-node} {read} {at-servers} {s
         ∙ (is r j e).servers_are
 
 -- The same in the terms of the code: the search, over sums that have the lows on each node.
-pub overloaded_from : (w : List ℕ) {percents : Bool} (n : ℕ) (sums : List ℕ) (found : ℕ) → percents ≡ percents_of w → n ≡ get_or w 1 0 → (r : Room) (j : ℕ) → table w 0 ≡ good r j
-    → sums ≡ credited_room r (replicate most_nodes 0) → found ≡ first_node n 0 (exceeds (parent_at percents w) (limit_at percents w) n sums) → found ≡ overloaded r
+pub overloaded_from : (w : List ℕ) {percents : Bool} (n : ℕ) (sums : List ℕ) (found : Option ℕ) → percents ≡ percents_of w → n ≡ get_or w 1 0 → (r : Room) (j : ℕ) → table w 0 ≡ good r j
+    → sums ≡ credited_room r (replicate most_nodes 0) → found ≡ found_node (first_node n 0 (exceeds (parent_at percents w) (limit_at percents w) n sums)) → found ≡ found_node (overloaded r)
 overloaded_from w n sums found formed count r j e es ef =
     let is = layout w r j n count e in
     ef
-    ∙ ap (λ (b : Bool). first_node n 0 (exceeds (parent_at b w) (limit_at b w) n sums)) formed
-    ∙ ap (λ (l : List ℕ). first_node n 0 (exceeds (parent_at (percents_of w) w) (limit_at (percents_of w) w) n l)) es
-    ∙ overloaded_found w r j n _ is (replicate most_nodes 0) (zeros-at most_nodes) (omega (arith, is.most, length-replicate {A = ℕ} most_nodes 0))
+    ∙ ap (λ (b : Bool). found_node (first_node n 0 (exceeds (parent_at b w) (limit_at b w) n sums))) formed
+    ∙ ap (λ (l : List ℕ). found_node (first_node n 0 (exceeds (parent_at (percents_of w) w) (limit_at (percents_of w) w) n l))) es
+    ∙ ap found_node (overloaded_found w r j n _ is (replicate most_nodes 0) (zeros-at most_nodes) (omega (arith, is.most, length-replicate {A = ℕ} most_nodes 0)))
 
 pub lows-from : (w : List ℕ) {percents : Bool} (n : ℕ) (sums : List ℕ) {sums' : List ℕ} → percents ≡ percents_of w → n ≡ get_or w 1 0 → (r : Room) (j : ℕ) → table w 0 ≡ good r j
     → sums ≡ credited_room r (replicate most_nodes 0) → SumsGathered (parent_at percents w) n sums sums' → sums' ≡ node_lows r
@@ -135,6 +135,15 @@ lows-from w n sums {sums'} formed count r j e es g =
     let size : length {A = ℕ} (replicate most_nodes 0) ≡ most_nodes = length-replicate {A = ℕ} most_nodes 0 in
     gathered_lows w r j n _ is (replicate most_nodes 0) (zeros-at most_nodes) (omega (arith, is.most, size)) size
     (subst (λ (l : List ℕ). SumsGathered (parent_at (percents_of w) w) n l sums') es (subst (λ (b : Bool). SumsGathered (parent_at b w) n sums sums') formed g))
+
+-- What the number that was found says of the test on it.
+pub found_some : (k : ℕ) {m : ℕ} → Some m ≡ found_node k → (k ≡ m) × (eqb k 0 ≡ false)
+found_some zero e = absurd (suc-ne-zero 0 (cc))
+found_some (suc k) e = (cc, ne_eqb (suc k) 0 (λ z. omega arith))
+
+pub found_none : (k : ℕ) → None ≡ found_node k → eqb k 0 ≡ true
+found_none zero e = refl
+found_none (suc k) e = absurd (suc-ne-zero 0 (cc))
 
 -- Of a refused table nothing is claimed but the refusal.
 pub unclaimed : (s : Step Room) {q : SheetRefusal} {l : List ℕ} → Err q ≡ told room_cords s

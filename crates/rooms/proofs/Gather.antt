@@ -1,7 +1,7 @@
 -- Sums gathered from the last node to the first, each node's passed on to its parent: what the loop keeps, and that the lowest node
 -- above its limit is found. A parent's number is below its child's, so a node's sum is whole when its turn comes.
 use mathlib.Core.Path.{◌≡◌, refl, sym, ap, ◌∙◌}
-use mathlib.Core.Bool.{cond}
+use mathlib.Core.Bool.{Bool, true, false, cond}
 use mathlib.Core.List.{List}
 use Prim.Native.Nat.{ℕ, zero, suc, ◌+◌, ◌-◌, ◌≤◌, ◌<◌}
 use native.Mathlib.Omega.{arith}
@@ -9,7 +9,8 @@ use lib.ListN.{length, get_or}
 use lib.Dec.{eqb, ltb}
 use borrow.Author.Tests.{ne_eqb}
 use Rattle.figures.specs.Sums.{on, sum}
-use Rattle.rooms.specs.Limits.{first_node}
+use Rattle.std.specs.Prelude.{Option, Some, None}
+use Rattle.rooms.specs.Limits.{first_node, found_node}
 use Rattle.rooms.specs.Trees.{ParentsFirst, child_sum}
 use Rattle.rooms.specs.Credits.{tree_sum, exceeds, SumsGathered}
 use Rattle.figures.specs.Credits.{credited}
@@ -64,15 +65,20 @@ module _ (count : ℕ) (parent own passed : ℕ → ℕ) where
 -- ---- The loop over the nodes of a table
 
 -- Before the turn of the node at place n - 1: the nodes from n on have passed their sums on, and the lowest of them above its limit is found.
-pub record Gathered (parent limit : ℕ → ℕ) (count : ℕ) (start : List ℕ) (found n : ℕ) (sums : List ℕ) : Type 0 where
+pub record Gathered (parent limit : ℕ → ℕ) (count : ℕ) (start : List ℕ) (found : Option ℕ) (n : ℕ) (sums : List ℕ) : Type 0 where
   pub done : ℕ
   pub all : n + done ≡ count
   pub held : Holds count parent (at start) (tree_sum parent count (at start)) done n (at sums)
   pub size : length sums ≡ length start
   pub past : (i : ℕ) → count ≤ i → get_or sums i 0 ≡ get_or start i 0
-  pub first : found ≡ first_node done n (exceeds parent limit count start)
+  pub first : found ≡ found_node (first_node done n (exceeds parent limit count start))
 
-pub gathered_start : (parent limit : ℕ → ℕ) (count : ℕ) (start : List ℕ) → Gathered parent limit count start 0 count start
+-- The number found, after one more node.
+found_turn : (over : Bool) (m k : ℕ) → cond over (Some (suc m)) (found_node k) ≡ found_node (cond over (suc m) k)
+found_turn true m k = refl
+found_turn false m k = refl
+
+pub gathered_start : (parent limit : ℕ → ℕ) (count : ℕ) (start : List ℕ) → Gathered parent limit count start None count start
 unfolding first_node
 gathered_start parent limit count start =
     record {
@@ -85,15 +91,15 @@ gathered_start parent limit count start =
     }
 
 module _ {parent limit : ℕ → ℕ} {count : ℕ} {start : List ℕ} where
-  pub gathered_end : {found n : ℕ} {sums : List ℕ} → Gathered parent limit count start found n sums → n ≤ 0 → found ≡ first_node count 0 (exceeds parent limit count start)
+  pub gathered_end : {found : Option ℕ} {n : ℕ} {sums : List ℕ} → Gathered parent limit count start found n sums → n ≤ 0 → found ≡ found_node (first_node count 0 (exceeds parent limit count start))
   gathered_end {n = zero} inv z =
       let e : inv.done ≡ count = omega (arith, inv.all) in
-      inv.first ∙ ap (λ (k : ℕ). first_node k 0 (exceeds parent limit count start)) e
+      inv.first ∙ ap (λ (k : ℕ). found_node (first_node k 0 (exceeds parent limit count start))) e
   gathered_end {n = suc m} inv z = absurd (omega arith)
 
   module _ (rises : ParentsFirst count parent) where
     -- At the end each node has its whole sum.
-    pub gathered_sums : {found n : ℕ} {sums : List ℕ} → Gathered parent limit count start found n sums → n ≤ 0 → SumsGathered parent count start sums
+    pub gathered_sums : {found : Option ℕ} {n : ℕ} {sums : List ℕ} → Gathered parent limit count start found n sums → n ≤ 0 → SumsGathered parent count start sums
     gathered_sums {n = zero} {sums = sums} inv z = record {
       size = inv.size;
       nodes = λ i l. holds_end count parent (at start) (tree_sum parent count (at start)) inv.done (at sums) inv.all inv.held i l
@@ -102,7 +108,7 @@ module _ {parent limit : ℕ → ℕ} {count : ℕ} {start : List ℕ} where
     }
     gathered_sums {n = suc m} inv z = absurd (omega arith)
 
-    gathered_whole : (found n : ℕ) (sums : List ℕ) → Gathered parent limit count start found n sums → 0 < n → get_or sums (n - 1) 0 ≡ tree_sum parent count (at start) (n - 1)
+    gathered_whole : (found : Option ℕ) (n : ℕ) (sums : List ℕ) → Gathered parent limit count start found n sums → 0 < n → get_or sums (n - 1) 0 ≡ tree_sum parent count (at start) (n - 1)
     gathered_whole found zero sums inv p = absurd (omega arith)
     gathered_whole found (suc m) sums inv p =
         let e : suc m - 1 ≡ m = omega arith in
@@ -111,7 +117,7 @@ module _ {parent limit : ℕ → ℕ} {count : ℕ} {start : List ℕ} where
         ∙ sym (tree_sum_step count parent rises (at start) m (omega (arith, inv.all))))
 
     -- No figure ever passes the sum of all, so no credit overflows.
-    pub gathered_most : {found n : ℕ} {sums : List ℕ} → Gathered parent limit count start found n sums → (i : ℕ) → i < count → get_or sums i 0 ≤ sum count (at start)
+    pub gathered_most : {found : Option ℕ} {n : ℕ} {sums : List ℕ} → Gathered parent limit count start found n sums → (i : ℕ) → i < count → get_or sums i 0 ≤ sum count (at start)
     gathered_most {n = n} {sums = sums} inv i l =
         omega (
           arith,
@@ -120,8 +126,8 @@ module _ {parent limit : ℕ → ℕ} {count : ℕ} {start : List ℕ} where
           tree_sum_most count parent (at start) i,
         )
 
-    turned : (found n : ℕ) (sums : List ℕ) → Gathered parent limit count start found n sums → 0 < n → count ≤ length start
-        → Gathered parent limit count start (cond (exceeds parent limit count start (n - 1)) (suc (n - 1)) found) (n - 1) (credited (parent (n - 1)) (tree_sum parent count (at start) (n - 1)) sums)
+    turned : (found : Option ℕ) (n : ℕ) (sums : List ℕ) → Gathered parent limit count start found n sums → 0 < n → count ≤ length start
+        → Gathered parent limit count start (cond (exceeds parent limit count start (n - 1)) (Some (suc (n - 1))) found) (n - 1) (credited (parent (n - 1)) (tree_sum parent count (at start) (n - 1)) sums)
     unfolding first_node
     turned found zero sums inv p h = absurd (omega arith)
     turned found (suc m) sums inv p h =
@@ -136,13 +142,13 @@ module _ {parent limit : ℕ → ℕ} {count : ℕ} {start : List ℕ} where
               (λ i l. credited-at (parent m) figure sums i (omega (arith, inv.all, inv.size)));
           size = credited-length (parent m) figure sums ∙ inv.size;
           past = λ i l. credited_past (parent m) figure sums i (omega (arith, inv.all)) ∙ inv.past i l;
-          first = rw (← inv.first);
+          first = rw (inv.first, found_turn (exceeds parent limit count start m) m (first_node inv.done (suc m) (exceeds parent limit count start)));
         })
 
     -- One turn, in the terms of the code.
-    pub gathered_turn : {found n : ℕ} {sums : List ℕ} {most figure above found' : ℕ} {sums' : List ℕ} → Gathered parent limit count start found n sums → 0 < n
+    pub gathered_turn : {found : Option ℕ} {n : ℕ} {sums : List ℕ} {most figure above : ℕ} {found' : Option ℕ} {sums' : List ℕ} → Gathered parent limit count start found n sums → 0 < n
         → count ≤ length start
         → most ≡ limit (n - 1) → figure ≡ get_or sums (n - 1) 0 → above ≡ parent (n - 1)
-        → found' ≡ cond (ltb most figure) (suc (n - 1)) found → sums' ≡ credited above figure sums → Gathered parent limit count start found' (n - 1) sums'
+        → found' ≡ cond (ltb most figure) (Some (suc (n - 1))) found → sums' ≡ credited above figure sums → Gathered parent limit count start found' (n - 1) sums'
     gathered_turn {found} {n} {sums} inv p h el ef ep en es =
         rw (es, en, el, ep, ef ∙ gathered_whole found n sums inv p) (turned found n sums inv p h)

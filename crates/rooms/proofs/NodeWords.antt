@@ -27,11 +27,9 @@ words_two true = omega arith
 words_two false = omega arith
 
 -- A percent is 80 or 100.
-pub is_eighty : (v : ℕ) → v ≡ 80 → eqb v 80 || eqb v 100 ≡ true
-is_eighty v e = rw (eq-eqb v 80 e)
-
-pub is_hundred : (v : ℕ) → (v ≡ 80 → ⊥) → v ≡ 100 → eqb v 80 || eqb v 100 ≡ true
-is_hundred v n e = rw (ne_eqb v 80 n, eq-eqb v 100 e)
+pub is_either : (v : ℕ) → ((v ≡ 80 → ⊥) × (v ≡ 100)) ⊎ (v ≡ 80) → eqb v 80 || eqb v 100 ≡ true
+is_either v (inl e) = rw (ne_eqb v 80 e.0, eq-eqb v 100 e.1)
+is_either v (inr e) = rw (eq-eqb v 80 e)
 
 pub is_neither : (v : ℕ) → (v ≡ 80 → ⊥) → (v ≡ 100 → ⊥) → eqb v 80 || eqb v 100 ≡ false
 is_neither v n m = rw (ne_eqb v 80 n, ne_eqb v 100 m)

@@ -17,7 +17,8 @@ use Rattle.rooms.specs.Limits.{limit, carried, node_at, hangs_beneath, server_lo
 use Rattle.rooms.specs.Cords.{RoomCord, server_cords, cords_from, cords_of, cord_at, server_at, server_of}
 use Rattle.rooms.specs.Lists.{carried_by, lows_of, nodes_of, levels_of}
 use Rattle.rooms.specs.Versions.{with_eighty, second_version, shares_tenfold, tenfold_past, third_version}
-use Rattle.rooms.proofs.NodeWords.{is_eighty}
+use Rattle.std.proofs.Common.{inr}
+use Rattle.rooms.proofs.NodeWords.{is_either}
 use Rattle.rooms.proofs.All.{All}
 use Rattle.rooms.proofs.Search.{first_node_cong}
 use Rattle.rooms.proofs.Accepted.{CordAccepted}
@@ -42,7 +43,7 @@ unfolding Chain
 eighty_fits own [] f = tt
 eighty_fits own (n ∷ l) f =
     let eighty : n.percent ≡ 80 = eqb-true n.percent 80 f.0.percent in
-    (record { parent = f.0.parent; rating = f.0.rating; percent = is_eighty n.percent eighty }, eighty_fits (suc own) l f.1)
+    (record { parent = f.0.parent; rating = f.0.rating; percent = is_either n.percent (inr eighty) }, eighty_fits (suc own) l f.1)
 
 module _ (w : List ℕ) (r : Room) (j : ℕ) (first : get_or w 0 0 ≡ 1) (e : table w 0 ≡ good r j) where
   fits_first : RoomFits 1 r

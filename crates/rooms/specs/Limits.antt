@@ -1,5 +1,5 @@
 -- What a node may carry: limits, lows, and the cords beneath a node at any depth.
-use Rattle.std.specs.Prelude.{Bool, cond, List, [], ◌∷◌, ℕ, zero, suc, ◌+◌, ◌-◌, ◌*◌, ◌/◌, length, get_or, replicate, eqb, ltb}
+use Rattle.std.specs.Prelude.{Bool, Option, Some, None, cond, List, [], ◌∷◌, ℕ, zero, suc, ◌+◌, ◌-◌, ◌*◌, ◌/◌, length, get_or, replicate, eqb, ltb}
 use Rattle.rooms.specs.Part.{Step, good, bad, Part, ◌>>=◌, give, ensure}
 use Rattle.figures.specs.Figures.{total}
 use Rattle.figures.specs.Sums.{on}
@@ -59,6 +59,11 @@ first_node (suc count) n test = cond (test n) (suc n) (first_node count (suc n) 
 -- The lowest node whose limit the lows beneath it exceed; 0 if there is none.
 unfoldable pub overloaded : Room → ℕ
 overloaded r = first_node (length r.nodes) 0 (λ n. ltb (limit (node_at r n)) (lows_beneath r n))
+
+-- The number of a node that was found; 0 is none.
+abbrev pub found_node : ℕ → Option ℕ
+found_node zero = None
+found_node (suc m) = Some (suc m)
 
 -- The whole check of a table. Refused last: lows beneath a node exceed its limit (9), at the lowest such node.
 unfoldable pub checked : Part Room

@@ -112,22 +112,14 @@ impl From<Unwritten> for SheetRefusal {
     }
 }
 
-// Sets all lows to 0.
-fn clear(lows: &mut [u64; 512])
-    ensures zeros { lows.new ≡ replicate most_nodes 0 }
-{
-    *lows = [0u64; 512];
-}
-
 // The whole check of a table: the count of its cords and its length, or its refusal. `lows` come as zeros; a good table leaves those beneath each node there, a refused one may leave anything.
-fn check_summing(table: &[u32], lows: &mut [u64; 512]) -> Result<(u32, usize), SheetRefusal>
+fn check_summing(table: &[u32], lows: &mut [u64; MOST_NODES]) -> Result<(u32, usize), SheetRefusal>
     requires zeros { lows.old ≡ replicate most_nodes 0 }
     ensures result { result ≡ told room_cords (checked table.now 0) }
     ensures lows { (q : Room) (j : ℕ) → checked table.now 0 ≡ good q j → lows.new ≡ node_lows q }
 {
     let (cords, length) = table::check_table(table, lows)?;
-    let node = lows::overloaded(table, lows);
-    if node != 0 {
+    if let Some(node) = lows::overloaded(table, lows) {
         return Err(SheetRefusal::LowsAboveLimit(node));
     }
     Ok((cords, length))
@@ -137,7 +129,7 @@ fn check_summing(table: &[u32], lows: &mut [u64; 512]) -> Result<(u32, usize), S
 pub fn check(table: &[u32]) -> Result<(u32, usize), SheetRefusal>
     ensures result { result ≡ told room_cords (checked table.now 0) }
 {
-    let mut lows = [0u64; 512];
+    let mut lows = [0; MOST_NODES];
     parts::check_lows(table, &mut lows)
 }
 

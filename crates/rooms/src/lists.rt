@@ -10,7 +10,6 @@ ghost use Rattle.rooms.specs.Rows.{OfRoom, NodesFit, ServersFit, CordsFit, Scale
 ghost use Rattle.rooms.specs.Walk.{servers_index};
 
 use crate::form::{has_percents, limit_at, node_index, scale_of};
-use figures::{place, short, word_index};
 
 // The columns of a cord's row. Its level is its rank, counted from 0 as places are.
 pub const NODE: usize = 0;
@@ -32,7 +31,7 @@ pub const CORD_COUNT: usize = 3;
 fn word(table: &[u32], i: usize) -> u32
     ensures result { result ≡ at table.now i }
 {
-    if i < table.len() { table[i] } else { 0 }
+    table.get(i).copied().unwrap_or(0)
 }
 
 // A table's scale.
@@ -47,7 +46,7 @@ pub fn node_count(table: &[u32]) -> usize
     ensures count { NodesFit table.now result }
     ensures word { (result ≡ at table.now 1) × (result < 2 ^ 32) }
 {
-    word_index(word(table, 1))
+    word(table, 1) as usize
 }
 
 // The index of a table's count of servers.
@@ -62,7 +61,7 @@ pub fn server_count(table: &[u32]) -> usize
     ensures count { ServersFit table.now result }
     ensures bound { result < 2 ^ 32 }
 {
-    word_index(word(table, servers_index(table)))
+    word(table, servers_index(table)) as usize
 }
 
 // The index of a table's first server, where it has one.
@@ -77,10 +76,7 @@ pub fn cord_count(table: &[u32]) -> usize
     ensures count { CordsFit table.now result }
 {
     let others = first_server(table) + 4 * server_count(table);
-    if table.len() < others {
-        return 0;
-    }
-    (table.len() - others) / 2
+    table.len().saturating_sub(others) / 2
 }
 
 // The parents and the limits of a good table's nodes.
@@ -90,9 +86,9 @@ pub fn lay_out_nodes(table: &[u32], parents: &mut [u16], limits: &mut [u32])
     ensures laid_out { OfRoom table.now (λ r. (parents.new ≡ parents_of r) × (limits.new ≡ limits_of r)) }
 {
     let percents = has_percents(word(table, 0));
-    for m in 0..parents.len() {
+    for (m, parent) in parents.iter_mut().enumerate() {
         let i = node_index(percents, m);
-        parents[m] = short(table[i]);
+        *parent = table[i] as u16;
         limits[m] = limit_at(table, i, percents);
     }
 }
@@ -102,7 +98,7 @@ fn cord_row(node: u32, server: usize, rank: u32, share: u32) -> [u16; 4]
     requires in_range { (node < 2 ^ 16) × (server < 2 ^ 16) × (1 ≤ rank) × (rank ≤ highest_rank) × (share < 2 ^ 16) }
     ensures result { result ≡ node ∷ server ∷ (rank - 1) ∷ share ∷ [] }
 {
-    [short(node), place(server), short(rank - 1), short(share)]
+    [node as u16, server as u16, (rank - 1) as u16, share as u16]
 }
 
 // A row for each server and each cord of a good table.
@@ -113,9 +109,10 @@ pub fn lay_out_servers(table: &[u32], servers: &mut [[u32; 4]], cords: &mut [[u1
 {
     let mut start = first_server(table);
     let mut first = 0;
+    // By hand: (c) tried `servers.iter_mut()`: what is kept over the loop of a server's cords cannot name the rows that it lends.
     for v in 0..servers.len() {
         let rank = table[start];
-        let count = word_index(table[start + 3]);
+        let count = table[start + 3] as usize;
         let mut word = start + 4;
         for c in first..first + count {
             let node = table[word];

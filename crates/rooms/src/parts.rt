@@ -8,18 +8,18 @@ ghost use Rattle.rooms.specs.Table.{room_cords};
 ghost use Rattle.rooms.specs.Told.{told};
 ghost use Rattle.rooms.specs.Outcome.{answer_of, reading_first};
 
-use crate::SheetRefusal;
+use crate::{MOST_NODES, SheetRefusal};
 
 // The whole check of a table, as `check`, with the lows of all cords beneath each node, at any depth, by the nodes' places: a caller that
 // goes on with a good table need not sum them again. Past the nodes, and where the table is refused, the lows are 0.
-pub fn check_lows(table: &[u32], lows: &mut [u64; 512]) -> Result<(u32, usize), SheetRefusal>
+pub fn check_lows(table: &[u32], lows: &mut [u64; MOST_NODES]) -> Result<(u32, usize), SheetRefusal>
     ensures result { result ≡ told room_cords (checked table.now 0) }
     ensures lows { lows.new ≡ lows_told (checked table.now 0) }
 {
-    crate::clear(lows);
+    *lows = [0; MOST_NODES];
     let checked = crate::check_summing(table, lows);
     if checked.is_err() {
-        crate::clear(lows);
+        *lows = [0; MOST_NODES];
     }
     checked
 }
@@ -32,6 +32,6 @@ pub fn read_words(sheet: &[u8], words: &mut [u32], space: usize) -> Result<usize
     ensures words { words.new ≡ sets words.old 0 (sheet_of sheet.now).words }
 {
     let count = numbers::parts::decode_sheet(sheet, words)?;
-    let front = figures::counts::least(count, words.len());
+    let front = count.min(words.len());
     crate::answer_for(&words[..front], space)
 }

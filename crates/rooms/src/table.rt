@@ -1,6 +1,6 @@
 // The words of a table, checked one by one in their order: refusals 4 to 8. On the way each cord's low is credited to its
 // node, so that refusal 9 needs no second walk.
-ghost use Rattle.std.specs.Prelude.{◌≡◌, true, ℕ, ◌+◌, ◌*◌, ◌^◌, ◌<◌, ◌≤◌, min, length, get_or};
+ghost use Rattle.std.specs.Prelude.{◌≡◌, true, ℕ, ◌+◌, ◌*◌, ◌^◌, ◌<◌, ◌≤◌, length, get_or};
 ghost use Rattle.figures.specs.Sums.{sum};
 ghost use Rattle.rooms.specs.Part.{word, within};
 ghost use Rattle.figures.specs.Figures.{total, at};
@@ -11,19 +11,11 @@ ghost use Rattle.rooms.specs.Told.{told, itself, nothing};
 
 use crate::form::{has_percents, scale_of};
 use crate::limits::carried_by;
-use crate::{MOST_WATTS, NEWEST_VERSION, SheetRefusal};
-use figures::{credit, wide, word_index};
-
-// The figures of the table, as specs/Table.antt names them.
-const MOST_NODES: u32 = crate::MOST_NODES as u32;
-
-const MOST_SERVERS: u32 = crate::MOST_SERVERS as u32;
-
-const MOST_CORDS: u32 = crate::MOST_CORDS as u32;
-
-const MOST_SERVER_CORDS: u32 = crate::MOST_SERVER_CORDS as u32;
-
-const HIGHEST_RANK: u32 = crate::HIGHEST_RANK as u32;
+use crate::{
+    HIGHEST_RANK, MOST_CORDS, MOST_NODES, MOST_SERVER_CORDS, MOST_SERVERS, MOST_WATTS,
+    NEWEST_VERSION, SheetRefusal,
+};
+use figures::credit;
 
 // The word at i, from low to high.
 fn check_word(w: &[u32], i: usize, low: u32, high: u32) -> Result<(u32, usize), SheetRefusal>
@@ -33,10 +25,7 @@ fn check_word(w: &[u32], i: usize, low: u32, high: u32) -> Result<(u32, usize), 
         return Err(SheetRefusal::WordMissing(w.len()));
     }
     let v = w[i];
-    if v < low {
-        return Err(SheetRefusal::WordOutOfRange(i));
-    }
-    if high < v {
+    if v < low || high < v {
         return Err(SheetRefusal::WordOutOfRange(i));
     }
     Ok((v, i + 1))
@@ -47,13 +36,10 @@ fn check_percent(w: &[u32], i: usize) -> Result<(u32, usize), SheetRefusal>
     ensures result { result ≡ told nothing (percent true w.now i) }
 {
     let (v, next) = check_word(w, i, 80, 100)?;
-    if v == 80 {
-        return Ok((0, next));
+    if v != 80 && v != 100 {
+        return Err(SheetRefusal::WordOutOfRange(i));
     }
-    if v == 100 {
-        return Ok((0, next));
-    }
-    Err(SheetRefusal::WordOutOfRange(i))
+    Ok((0, next))
 }
 
 // The node at i, with its own number; whether it has a word for its percent.
@@ -79,14 +65,10 @@ fn check_nodes(
     requires count { count ≤ most_nodes }
     ensures result { result ≡ told nothing (nodes percents count 1 w.now i) }
 {
-    let mut left = count;
-    let mut own: u32 = 1;
     let mut j = i;
-    while 0 < left {
+    for own in 1..=count {
         let (_, next) = check_node(w, j, percents, own)?;
         j = next;
-        own += 1;
-        left -= 1;
     }
     Ok((0, j))
 }
@@ -120,16 +102,14 @@ fn check_cords(
     ensures credited { LowsCredited (cords scale node_count count w.now i) (credited_cords scale least) node_count
         (most_watts * count) sums.old sums.new }
 {
-    let mut left = count;
-    let mut sum: u32 = 0;
+    let mut sum = 0;
     let mut j = i;
-    while 0 < left {
+    for _ in 0..count {
         let (share, next) = check_cord(w, j, scale, node_count)?;
         let low = carried_by(share, least, scale);
-        credit(sums, word_index(w[j]), wide(low));
+        credit(sums, w[j] as usize, u64::from(low));
         sum += share;
         j = next;
-        left -= 1;
     }
     Ok((sum, j))
 }
@@ -144,13 +124,6 @@ fn check_range(w: &[u32], i: usize) -> Result<(u32, usize), SheetRefusal>
         return Err(SheetRefusal::GreatestBelowLeast(at_greatest));
     }
     Ok((least, next))
-}
-
-// The lesser of two numbers.
-fn lesser(a: u32, b: u32) -> u32
-    ensures result { result ≡ min a b }
-{
-    if a < b { a } else { b }
 }
 
 // The count of a server's cords, and the cords, from i on; `start` is the index of the server's rank.
@@ -170,7 +143,12 @@ fn check_load(
     ensures credited { LowsCredited (load scale node_count before start w.now i) (credited_cords scale least) node_count
         (most_server_cords * most_watts) sums.old sums.new }
 {
-    let (count, at_cords) = check_word(w, i, 1, lesser(MOST_SERVER_CORDS, MOST_CORDS - before))?;
+    let (count, at_cords) = check_word(
+        w,
+        i,
+        1,
+        (MOST_SERVER_CORDS as u32).min(MOST_CORDS as u32 - before),
+    )?;
     let (shares, next) = check_cords(w, at_cords, scale, node_count, count, least, sums)?;
     if shares != scale {
         return Err(SheetRefusal::SharesNotWhole(start));
@@ -193,7 +171,7 @@ fn check_server(
     ensures credited { LowsCredited (server scale node_count before w.now i) (credited_server scale) node_count
         (most_server_cords * most_watts) sums.old sums.new }
 {
-    let (_, at_range) = check_word(w, i, 1, HIGHEST_RANK)?;
+    let (_, at_range) = check_word(w, i, 1, u32::from(HIGHEST_RANK))?;
     let (least, at_load) = check_range(w, at_range)?;
     check_load(w, at_load, scale, node_count, before, i, least, sums)
 }
@@ -213,14 +191,12 @@ fn check_servers(
     ensures credited { LowsCredited (servers scale node_count count 0 w.now i) (credited_servers scale) node_count
         (most_server_cords * most_watts * count) sums.old sums.new }
 {
-    let mut left = count;
-    let mut before: u32 = 0;
+    let mut before = 0;
     let mut j = i;
-    while 0 < left {
+    for _ in 0..count {
         let (cords, next) = check_server(w, j, scale, node_count, before, sums)?;
         before += cords;
         j = next;
-        left -= 1;
     }
     Ok((before, j))
 }
@@ -233,9 +209,9 @@ pub(crate) fn check_table(w: &[u32], sums: &mut [u64]) -> Result<(u32, usize), S
         (most_server_cords * most_watts * most_servers) sums.old sums.new }
 {
     let (version, at_nodes) = check_word(w, 0, 1, NEWEST_VERSION)?;
-    let (node_count, first_node) = check_word(w, at_nodes, 1, MOST_NODES)?;
+    let (node_count, first_node) = check_word(w, at_nodes, 1, MOST_NODES as u32)?;
     let (_, at_servers) = check_nodes(w, first_node, has_percents(version), node_count)?;
-    let (server_count, first_server) = check_word(w, at_servers, 0, MOST_SERVERS)?;
+    let (server_count, first_server) = check_word(w, at_servers, 0, MOST_SERVERS as u32)?;
     let scale = scale_of(version);
     let (cords, next) = check_servers(w, first_server, scale, node_count, server_count, sums)?;
     if next < w.len() {

@@ -1,11 +1,7 @@
-use Prim.Native.Nat.{◌-◌, ◌≤◌}
 use lib.ListN.{length}
 use Rattle.figures.proofs.Filled.{Filled}
 use Rattle.rooms.specs.Credits.{parent_at, limit_at}
 use Rattle.rooms.proofs.lists.lay_out_nodes.Given as goal
 
 abbrev pub invariant-loop-m : goal.invariant-loop-m
-invariant-loop-m l = (l.m ≤ length l.initial.parents) × Filled (parent_at l.percents l.table) (length l.initial.parents) l.m l.parents × Filled (limit_at l.percents l.table) (length l.initial.limits) l.m l.limits
-
-abbrev pub decreases-loop-m : goal.decreases-loop-m
-decreases-loop-m l = l.m-end - l.m
+invariant-loop-m l = Filled (parent_at l.percents l.table) (length l.initial.parents) l.m l.parents × Filled (limit_at l.percents l.table) (length l.initial.limits) l.m l.limits

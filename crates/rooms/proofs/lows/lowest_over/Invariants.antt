@@ -4,6 +4,3 @@ use Rattle.rooms.proofs.lows.lowest_over.Given as goal
 
 abbrev pub invariant-loop-n : goal.invariant-loop-n
 invariant-loop-n l = Gathered (parent_at l.percents l.w) (limit_at l.percents l.w) l.node_count l.initial.sums l.found l.n l.sums
-
-abbrev pub decreases-loop-n : goal.decreases-loop-n
-decreases-loop-n l = l.n

@@ -17,16 +17,16 @@ bounds-w-1 c = omega (arith, (layout _ _ _ _ refl c.requires.good.0.is).there)
 
 pub lowest_over-requires : goal.lowest_over-requires
 lowest_over-requires c =
-    let is = layout _ _ _ _ c.word_index-n.ensures.result.0 c.requires.good.0.is in
+    let is = layout _ _ _ _ refl c.requires.good.0.is in
     let zero = sum_zeros (get_or c.args.w.now 1 0) (replicate most_nodes 0) (zeros-at most_nodes) in
     record {
       nodes = (nodes-read _ _ _ _ _ is c.has_percents-percents.ensures.result refl, omega (arith, is.most, c.requires.good.1));
-      sums_fit = rw c.word_index-n.ensures.result.0 (omega (arith, c.requires.credited.grow c.requires.good.0.value _ c.requires.good.0.is));
+      sums_fit = (omega (arith, c.requires.credited.grow c.requires.good.0.value _ c.requires.good.0.is));
     }
 
 pub returns : goal.returns
 returns c =
     record {
-      result = λ q j e. overloaded_from _ _ _ _ c.has_percents-percents.ensures.result c.word_index-n.ensures.result.0 q j e (c.requires.credited.are q j e) c.lowest_over.ensures.result;
-      sums = λ q j e. lows-from _ _ _ c.has_percents-percents.ensures.result c.word_index-n.ensures.result.0 q j e (c.requires.credited.are q j e) c.lowest_over.ensures.gathered;
+      result = λ q j e. overloaded_from _ _ _ _ c.has_percents-percents.ensures.result refl q j e (c.requires.credited.are q j e) c.lowest_over.ensures.result;
+      sums = λ q j e. lows-from _ _ _ c.has_percents-percents.ensures.result refl q j e (c.requires.credited.are q j e) c.lowest_over.ensures.gathered;
     }

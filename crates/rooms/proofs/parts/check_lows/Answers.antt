@@ -1,5 +1,5 @@
 -- `check_lows` meets its contract: a good table leaves the lows beneath each node, and a refused one's are cleared.
-use mathlib.Core.Path.{sym, ◌∙◌}
+use mathlib.Core.Path.{refl, sym, ◌∙◌}
 use Rattle.rooms.proofs.Found.{lows_cleared, lows_kept}
 use Rattle.rooms.proofs.parts.check_lows.Goals as goal
 
@@ -7,7 +7,7 @@ pub returns-then-is_err : goal.returns-then-is_err
 returns-then-is_err c =
     record {
       result = c.check_summing-checked.ensures.result;
-      lows = lows_cleared _ c.check_summing-checked.ensures.result (sym c.is_err.ensures.value ∙ c.if-is_err.true) c.clear-then-is_err.ensures.zeros;
+      lows = lows_cleared _ c.check_summing-checked.ensures.result (sym c.is_err.ensures.value ∙ c.if-is_err.true) refl;
     }
 
 pub returns-else-is_err : goal.returns-else-is_err

@@ -11,11 +11,11 @@ returns-in_err-count c =
     }
 
 pub slice_bounds-answer_for-end-2 : goal.slice_bounds-answer_for-end-2
-slice_bounds-answer_for-end-2 c = front_length _ _ c.least-front.ensures.result
+slice_bounds-answer_for-end-2 c = front_length _ _ c.min-front.ensures
 
 pub returns : goal.returns
 returns c =
     record {
-      result = first_answered c.args.sheet.now c.args.words.now c.args.space (whole_so _ c.in_ok-count.ensures.result) c.decode_sheet.ensures.words c.least-front.ensures.result c.answer_for.ensures.result;
+      result = first_answered c.args.sheet.now c.args.words.now c.args.space (whole_so _ c.in_ok-count.ensures.result) c.decode_sheet.ensures.words c.min-front.ensures c.answer_for.ensures.result;
       words = c.decode_sheet.ensures.words;
     }

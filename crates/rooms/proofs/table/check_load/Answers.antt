@@ -12,12 +12,12 @@ use Rattle.rooms.proofs.table.check_load.Goals as goal
 pub returns-in_err-count : goal.returns-in_err-count
 unfolding load
 returns-in_err-count c =
-    let both = stopped _ _ (stop _ _ _ _ (rw c.lesser.ensures.result at c.in_err-count.ensures.result)) in
+    let both = stopped _ _ (stop _ _ _ _ (rw c.min.ensures at c.in_err-count.ensures.result)) in
     record { result = passed_on c.from_residual.ensures.1 both.0; credited = both.1 }
 
 pub check_cords-requires : goal.check_cords-requires
 check_cords-requires c =
-    let count_few : c.in_ok-count.count ≤ most_server_cords = omega (arith, word_most _ _ _ _ c.in_ok-count.ensures.result, c.lesser.ensures.result) in
+    let count_few : c.in_ok-count.count ≤ most_server_cords = omega (arith, word_most _ _ _ _ c.in_ok-count.ensures.result, c.min.ensures) in
     record {
       in_range = (c.requires.in_range.0, omega (arith, count_few), c.requires.in_range.2);
       sums_fit = (c.requires.sums_fit.0, omega (arith, count_few, c.requires.sums_fit.1));
@@ -27,7 +27,7 @@ pub returns-in_err-shares : goal.returns-in_err-shares
 unfolding load
 returns-in_err-shares c =
     let both = stopped _ _
-    (pass_word _ _ _ (rw c.lesser.ensures.result at c.in_ok-count.ensures.result)
+    (pass_word _ _ _ (rw c.min.ensures at c.in_ok-count.ensures.result)
     (stop _ _ _ _ c.in_err-shares.ensures.result)) in
     record { result = passed_on c.from_residual-in_err-shares.ensures.1 both.0; credited = both.1 }
 
@@ -35,7 +35,7 @@ pub returns-then-shares-scale : goal.returns-then-shares-scale
 unfolding load
 returns-then-shares-scale c =
     let both = stopped _ _
-    (pass_word _ _ _ (rw c.lesser.ensures.result at c.in_ok-count.ensures.result)
+    (pass_word _ _ _ (rw c.min.ensures at c.in_ok-count.ensures.result)
     (pass _ _ _ _ c.in_ok-shares.ensures.result (λ l is sum.
     denied _ _ _ _ _ _ (ne_eqb _ _ (λ z. c.if-shares-scale.true (sym sum ∙ z)))))) in
     record { result = both.0; credited = both.1 }
@@ -43,11 +43,11 @@ returns-then-shares-scale c =
 pub returns : goal.returns
 unfolding load
 returns c =
-    let count_few : c.in_ok-count.count ≤ most_server_cords = omega (arith, word_most _ _ _ _ c.in_ok-count.ensures.result, c.lesser.ensures.result) in
+    let count_few : c.in_ok-count.count ≤ most_server_cords = omega (arith, word_most _ _ _ _ c.in_ok-count.ensures.result, c.min.ensures) in
     let word = word-told _ _ _ _ c.in_ok-count.ensures.result in
     record {
       result =
-          pass_word _ _ _ (rw c.lesser.ensures.result at c.in_ok-count.ensures.result)
+          pass_word _ _ _ (rw c.min.ensures at c.in_ok-count.ensures.result)
           (pass _ _ _ _ c.in_ok-shares.ensures.result (λ l is sum.
           ensured _ _ _ _ _ _ (eq-eqb _ _ (sum ∙ c.if-shares-scale.false)) (gives _ _ _ (sym (many-length _ _ _ _ _ _ _ _ is)))));
       credited = load_credits _ _ _ _ _ _ _ word.0 word.1 count_few c.check_cords.ensures.credited;

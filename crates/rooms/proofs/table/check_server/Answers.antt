@@ -10,13 +10,13 @@ use Rattle.rooms.proofs.table.check_server.Goals as goal
 pub returns-in_err-at_range : goal.returns-in_err-at_range
 unfolding server
 returns-in_err-at_range c =
-    let both = stopped _ _ (pass_value _ _ _ _ (stop _ _ _ _ c.in_err-at_range.ensures.result)) in
+    let both = stopped _ _ (pass_value _ _ _ _ (stop _ _ _ _ (rw c.from.ensures at c.in_err-at_range.ensures.result))) in
     record { result = passed_on c.from_residual.ensures.1 both.0; credited = both.1 }
 
 pub returns-in_err-least : goal.returns-in_err-least
 unfolding server
 returns-in_err-least c =
-    let both = stopped _ _ (pass_value _ _ _ _ (pass_word _ _ _ c.in_ok-at_range.ensures.result (stop _ _ _ _ c.in_err-least.ensures.result))) in
+    let both = stopped _ _ (pass_value _ _ _ _ (pass_word _ _ _ (rw c.from.ensures at c.in_ok-at_range.ensures.result) (stop _ _ _ _ c.in_err-least.ensures.result))) in
     record { result = passed_on c.from_residual-in_err-least.ensures.1 both.0; credited = both.1 }
 
 pub check_load-requires : goal.check_load-requires
@@ -31,9 +31,9 @@ check_load-requires c =
 pub returns : goal.returns
 unfolding server
 returns c =
-    let rank = known _ _ c.in_ok-at_range.ensures.result in
+    let rank = known _ _ (rw c.from.ensures at c.in_ok-at_range.ensures.result) in
     let range = known _ _ c.in_ok-least.ensures.result in
     record {
-      result = pass_value _ _ _ _ (pass_word _ _ _ c.in_ok-at_range.ensures.result (pass_known _ _ _ _ range (last _ _ _ _ (λ _. refl) c.check_load.ensures.result)));
+      result = pass_value _ _ _ _ (pass_word _ _ _ (rw c.from.ensures at c.in_ok-at_range.ensures.result) (pass_known _ _ _ _ range (last _ _ _ _ (λ _. refl) c.check_load.ensures.result)));
       credited = server_credits _ _ _ _ _ rank.is range.is range.figure c.check_load.ensures.credited;
     }

@@ -1,4 +1,4 @@
-use Prim.Native.Nat.{◌+◌, ◌*◌, ◌≤◌}
+use Prim.Native.Nat.{◌+◌, ◌-◌, ◌*◌, ◌≤◌}
 use lib.ListN.{length}
 use Rattle.figures.specs.Sums.{sum}
 use Rattle.rooms.specs.Table.{server, servers, cord_count, most_server_cords, most_cords, most_watts}
@@ -8,10 +8,9 @@ use Rattle.rooms.proofs.Steps.{Row}
 use Rattle.rooms.proofs.CreditTurns.{row_of, ServersCrediting}
 use Rattle.rooms.proofs.table.check_servers.Given as goal
 
-abbrev pub invariant-loop-left : goal.invariant-loop-left
-invariant-loop-left l = (l.before ≤ most_cords)
-    × Row cord_count (server l.scale l.node_count) (λ before s. before + cord_count s) l.w l.count 0 l.i l.before l.left l.before l.j
-    × ServersCrediting l.scale l.node_count l.w (credited_servers l.scale (row_of (servers l.scale l.node_count l.count 0 l.w l.i)) l.initial.sums) (length l.initial.sums) (sum l.node_count (at l.initial.sums) + most_server_cords * most_watts * l.count) l.left l.before l.j l.sums
-
-abbrev pub decreases-loop-left : goal.decreases-loop-left
-decreases-loop-left l = l.left
+abbrev pub invariant-loop : goal.invariant-loop
+invariant-loop l = record {
+  few : l.before ≤ most_cords;
+  row : Row cord_count (server l.scale l.node_count) (λ before s. before + cord_count s) l.w l.count 0 l.i l.before (l.count - l.counter) l.before l.j;
+  credits : ServersCrediting l.scale l.node_count l.w (credited_servers l.scale (row_of (servers l.scale l.node_count l.count 0 l.w l.i)) l.initial.sums) (length l.initial.sums) (sum l.node_count (at l.initial.sums) + most_server_cords * most_watts * l.count) (l.count - l.counter) l.before l.j l.sums;
+}

@@ -1,5 +1,5 @@
 -- What the code's answers tell of fields and lines: one law for each way that a function goes on or returns.
-use mathlib.Core.Path.{◌≡◌, refl}
+use mathlib.Core.Path.{◌≡◌, refl, ap}
 use mathlib.Core.Bool.{Bool, true, false, cond, ◌&&◌}
 use mathlib.Core.List.{List}
 use Prim.Native.Nat.{ℕ, suc, ◌+◌, ◌≤◌, ◌<◌}
@@ -7,88 +7,75 @@ use native.Mathlib.Nat.{suc-ne-zero, mul-le-mul}
 use native.Mathlib.Omega.{arith}
 use native.Mathlib.Numerals.{add-one}
 use lib.Dec.{leb, ltb}
+use Rattle.std.proofs.Common.{Some, None, Ok, Err}
+use Rattle.std.specs.Option.{ok_or}
 use borrow.Author.Tests.{leb-true, leb-false, ltb-true, lt-ltb, le-ltb, eq-eqb, ne_eqb}
 use Rattle.rooms.specs.Table.{most_nodes}
 use Rattle.schedules.specs.Sizes.{is_size}
 use Rattle.schedules.specs.Text.{Step, good, bad, malformed, follow, byte_at, space, newline, byte, number, field, line}
 use Rattle.schedules.specs.Schedule.{least_volts, most_volts, rating, in_range, Judgement, judged}
-use Rattle.schedules.specs.Told.{told_number, told_line, told_node}
+use Rattle.schedules.specs.Told.{told, told_judgement}
 use Rattle.schedules.proofs.SizeLaws.{and_left, and_right, size_most}
 use Rattle.schedules.specs.declared.Entry.{Entry}
 use Rattle.schedules.specs.declared.ScheduleRefusal.{ScheduleRefusal}
 use Rattle.schedules.specs.declared.ScheduleRefusal.TheVariants.{NotALine, NotASize, OutOfRange}
-use Rattle.schedules.specs.declared.text.Number.{Number}
-use Rattle.schedules.specs.declared.text.Number.TheVariants.{Value, Nothing}
-use Rattle.schedules.specs.declared.text.ScheduleLine.{ScheduleLine}
-use Rattle.schedules.specs.declared.text.ScheduleLine.TheVariants as lines
-use Rattle.schedules.specs.declared.lines.JudgedLine.{JudgedLine}
-use Rattle.schedules.specs.declared.lines.JudgedLine.TheVariants.{Node, Refused}
 
--- ---- A number and a line, told
+-- ---- A part of a text, told
 
-pub number_good : (s : Step ℕ) {r : Number} {value next : ℕ} → r ≡ told_number s → r ≡ Value value next → s ≡ good value next
-unfolding told_number
-number_good (good v n) {value = value} {next = next} d e =
-    let a : v ≡ value = cc in
-    let b : n ≡ next = cc in
-    rw (a, b)
-number_good (bad malformed) d e = absurd (suc-ne-zero 0 (cc))
+pub told_good : {A : Type 0} (s : Step A) {value : A} {next : ℕ} → Some (value, next) ≡ told s → s ≡ good value next
+told_good {A} (good v n) {value} {next} d = let e : ◌≡◌ {A = A × ℕ} (v, n) (value, next) = cc in ap (λ (p : A × ℕ). good p.0 p.1) e
+told_good (bad malformed) d = cc
 
-pub number_bad : (s : Step ℕ) {r : Number} → r ≡ told_number s → r ≡ Nothing → s ≡ (bad malformed)
-unfolding told_number
-number_bad (good v n) d e = absurd (suc-ne-zero 0 (cc))
-number_bad (bad malformed) d e = refl
+pub told_bad : {A : Type 0} (s : Step A) → None ≡ told s → s ≡ (bad malformed)
+told_bad (good v n) d = cc
+told_bad (bad malformed) d = refl
 
-pub line_good : (s : Step Entry) {r : ScheduleLine} {entry : Entry} {next : ℕ} → r ≡ told_line s → r ≡ lines.Of entry next → s ≡ good entry next
-unfolding told_line
-line_good (good x n) {entry = entry} {next = next} d e =
-    let a : x ≡ entry = cc in
-    let b : n ≡ next = cc in
-    rw (a, b)
-line_good (bad malformed) d e = absurd (suc-ne-zero 0 (cc))
+-- What is not of the form is refused.
+pub or_good : {A R : Type 0} (s : Step A) (q : R) {value : A} {next : ℕ} → Ok (value, next) ≡ ok_or (told s) q → s ≡ good value next
+or_good (good v n) q d = told_good (good v n) (cc)
+or_good (bad malformed) q d = cc
 
-pub line_bad : (s : Step Entry) {r : ScheduleLine} → r ≡ told_line s → r ≡ lines.Nothing → s ≡ (bad malformed)
-unfolding told_line
-line_bad (good x n) d e = absurd (suc-ne-zero 0 (cc))
-line_bad (bad malformed) d e = refl
+pub or_bad : {A R : Type 0} (s : Step A) {q r : R} → Err r ≡ ok_or (told s) q → (s ≡ (bad malformed)) × (r ≡ q)
+or_bad (good v n) d = cc
+or_bad (bad malformed) d = (refl, cc)
 
 -- ---- A field
 
 module _ (text : List ℕ) (at end : ℕ) where
-  pub field_none : number text at ≡ (bad malformed) → Nothing ≡ told_number (field end text at)
-  unfolding field follow told_number
-  field_none n = rw n
+  pub field_none : number text at ≡ (bad malformed) → field end text at ≡ (bad malformed)
+  unfolding field follow
+  field_none n = rw n refl
 
   module _ {value next : ℕ} (n : number text at ≡ good value next) where
-    pub field_other : (byte_at text next ≡ end → ⊥) → Nothing ≡ told_number (field end text at)
-    unfolding field follow byte told_number
-    field_other b = rw (n, ne_eqb (byte_at text next) end b)
+    pub field_other : (byte_at text next ≡ end → ⊥) → field end text at ≡ (bad malformed)
+    unfolding field follow byte
+    field_other b = rw (n, ne_eqb (byte_at text next) end b) refl
 
-    pub field_found : byte_at text next ≡ end → Value value (next + 1) ≡ told_number (field end text at)
-    unfolding field follow byte told_number
-    field_found b = rw (n, eq-eqb (byte_at text next) end b, add-one)
+    pub field_found : byte_at text next ≡ end → field end text at ≡ good value (next + 1)
+    unfolding field follow byte
+    field_found b = rw (n, eq-eqb (byte_at text next) end b, add-one) refl
 
 -- ---- A line
 
 module _ (text : List ℕ) (at : ℕ) where
-  pub line_first : field space text at ≡ (bad malformed) → lines.Nothing ≡ told_line (line text at)
-  unfolding line follow told_line
-  line_first a = rw a
+  pub line_first : field space text at ≡ (bad malformed) → line text at ≡ (bad malformed)
+  unfolding line follow
+  line_first a = rw a refl
 
   module _ {parent at₁ : ℕ} (a : field space text at ≡ good parent at₁) where
-    pub line_second : field space text at₁ ≡ (bad malformed) → lines.Nothing ≡ told_line (line text at)
-    unfolding line follow told_line
-    line_second b = rw (a, b)
+    pub line_second : field space text at₁ ≡ (bad malformed) → line text at ≡ (bad malformed)
+    unfolding line follow
+    line_second b = rw (a, b) refl
 
     module _ {amperes at₂ : ℕ} (b : field space text at₁ ≡ good amperes at₂) where
-      pub line_third : field newline text at₂ ≡ (bad malformed) → lines.Nothing ≡ told_line (line text at)
-      unfolding line follow told_line
-      line_third v = rw (a, b, v)
+      pub line_third : field newline text at₂ ≡ (bad malformed) → line text at ≡ (bad malformed)
+      unfolding line follow
+      line_third v = rw (a, b, v) refl
 
       pub line_whole : {volts next : ℕ} → field newline text at₂ ≡ good volts next
-          → lines.Of (record { parent = parent; amperes = amperes; volts = volts }) next ≡ told_line (line text at)
-      unfolding line follow told_line
-      line_whole v = rw (a, b, v)
+          → line text at ≡ good (record { parent = parent; amperes = amperes; volts = volts }) next
+      unfolding line follow
+      line_whole v = rw (a, b, v) refl
 
 -- ---- A line, judged
 
@@ -128,22 +115,22 @@ pub rating_most : (place : ℕ) (e : Entry) → is_size e.amperes ≡ true → i
 rating_most place e s t = mul-le-mul (size_most e.amperes s) (range_is place e t).most
 
 module _ (place : ℕ) (s : Step Entry) where
-  pub not_a_line : s ≡ (bad malformed) → Refused (NotALine place) ≡ told_node (judged place s)
-  unfolding judged told_node
-  not_a_line n = rw n
+  pub not_a_line : s ≡ (bad malformed) → judged place s ≡ bad (NotALine place)
+  unfolding judged
+  not_a_line n = rw n refl
 
   module _ {e : Entry} {next : ℕ} (n : s ≡ good e next) where
-    pub not_a_size : is_size e.amperes ≡ false → Refused (NotASize place) ≡ told_node (judged place s)
-    unfolding judged told_node
-    not_a_size a = rw (n, a)
+    pub not_a_size : is_size e.amperes ≡ false → judged place s ≡ bad (NotASize place)
+    unfolding judged
+    not_a_size a = rw (n, a) refl
 
-    pub out_of_range : is_size e.amperes ≡ true → in_range place e ≡ false → Refused (OutOfRange place) ≡ told_node (judged place s)
-    unfolding judged told_node
-    out_of_range a b = rw (n, a, b)
+    pub out_of_range : is_size e.amperes ≡ true → in_range place e ≡ false → judged place s ≡ bad (OutOfRange place)
+    unfolding judged
+    out_of_range a b = rw (n, a, b) refl
 
-    pub a_node : is_size e.amperes ≡ true → in_range place e ≡ true → Node e.parent (rating e) next ≡ told_node (judged place s)
-    unfolding judged told_node
-    a_node a b = rw (n, a, b)
+    pub passes : is_size e.amperes ≡ true → in_range place e ≡ true → judged place s ≡ good e next
+    unfolding judged
+    passes a b = rw (n, a, b) refl
 
 -- What a line that passes is.
 pub record Passed (place : ℕ) (s : Step Entry) (e : Entry) (next : ℕ) : Type 0 where
@@ -171,20 +158,10 @@ passed_is place (good x n) e next j = size (is_size x.amperes) refl j
     size false a j = absurd (suc-ne-zero 0 (cc))
 
 -- What the answer on a line tells.
-pub record Told (j : Judgement) (parent watts next : ℕ) : Type 0 where
-  pub entry : Entry
-  pub is : j ≡ good entry next
-  pub parent_is : entry.parent ≡ parent
-  pub rating_is : rating entry ≡ watts
+pub judgement_good : (j : Judgement) {e : Entry} {next : ℕ} → Ok (e, next) ≡ told_judgement j → j ≡ good e next
+judgement_good (good x n) {e} {next} d = let p : ◌≡◌ {A = Entry × ℕ} (x, n) (e, next) = cc in ap (λ (p : Entry × ℕ). good p.0 p.1) p
+judgement_good (bad q) d = cc
 
-pub node-told : (j : Judgement) {r : JudgedLine} {parent watts next : ℕ} → r ≡ told_node j → r ≡ Node parent watts next → Told j parent watts next
-unfolding told_node
-node-told (good x n) {next = next} d e =
-    let b : n ≡ next = cc in
-    record { entry = x; is = rw b; parent_is = cc; rating_is = cc }
-node-told (bad q) d e = absurd (suc-ne-zero 0 (cc))
-
-pub refusal-told : (j : Judgement) {r : JudgedLine} {refusal : ScheduleRefusal} → r ≡ told_node j → r ≡ Refused refusal → j ≡ bad refusal
-unfolding told_node
-refusal-told (good x n) d e = absurd (suc-ne-zero 0 (cc))
-refusal-told (bad q) {refusal = refusal} d e = let a : q ≡ refusal = cc in rw a
+pub judgement_bad : (j : Judgement) {refusal : ScheduleRefusal} → Err refusal ≡ told_judgement j → j ≡ bad refusal
+judgement_bad (good x n) d = cc
+judgement_bad (bad q) d = cc

@@ -8,6 +8,7 @@ use native.Mathlib.Omega.{arith}
 use lib.ListN.{length, take, set, length-append, length-take, length-map}
 use lib.Seq.{sets, set_comm, take_all, take-length}
 use lib.Dec.{leb}
+use Rattle.std.proofs.Common.{Ok, Err}
 use borrow.Author.Tests.{ltb-false, eq-eqb, ne_eqb}
 use Rattle.words.specs.Bytes.{bytes_of}
 use Rattle.figures.proofs.Stores.{take-sets, sets-append}
@@ -23,15 +24,11 @@ use Rattle.schedules.specs.Text.{good, bad}
 use Rattle.schedules.specs.Schedule.{Judgement, judged, ScheduleEnding, whole, stopped, onto, lines_from, lines_of, rating, node_of, table_of, ScheduleOutcome, no_lines, scheduled_lines, scheduling, answer_of, schedule_number, schedule_figure, most_schedule_words}
 use Rattle.schedules.specs.Nodes.{entry_words}
 use Rattle.schedules.specs.Call.{numbers_of}
-use Rattle.schedules.specs.Told.{counted, told_lines, written, InFront, written_count}
+use Rattle.schedules.specs.Told.{counted, told_lines, written, InFront}
 use Rattle.schedules.proofs.LineLaws.{passed_is, range_is}
 use Rattle.schedules.specs.declared.Entry.{Entry}
 use Rattle.schedules.specs.declared.ScheduleRefusal.{ScheduleRefusal}
 use Rattle.schedules.specs.declared.ScheduleRefusal.TheVariants.{OutOfRange, TableTooShort}
-use Rattle.schedules.specs.declared.Scheduled.{Scheduled}
-use Rattle.schedules.specs.declared.Scheduled.TheVariants.{Accepted, Refused}
-use Rattle.schedules.specs.declared.lines.Counted.{Counted}
-use Rattle.schedules.specs.declared.lines.Counted.TheVariants as counts
 
 -- ---- Lengths
 
@@ -97,12 +94,12 @@ pub record Whole (text : List ℕ) (count : ℕ) : Type 0 where
   pub ends : (lines_of text).ending ≡ whole
   pub counts : length (lines_of text).entries ≡ count
 
-pub whole_so : (text : List ℕ) {r : Counted} {count : ℕ} → r ≡ told_lines (lines_of text) → r ≡ counts.Lines count → Whole text count
-whole_so text {r = r} {count = count} d e = go (lines_of text).ending refl d
+pub whole_so : (text : List ℕ) {count : ℕ} → Ok count ≡ told_lines (lines_of text) → Whole text count
+whole_so text {count = count} d = go (lines_of text).ending refl d
   where
-    go : (ending : ScheduleEnding) → (lines_of text).ending ≡ ending → r ≡ counted (length (lines_of text).entries) ending → Whole text count
+    go : (ending : ScheduleEnding) → (lines_of text).ending ≡ ending → Ok count ≡ counted (length (lines_of text).entries) ending → Whole text count
     go whole is d = let n : length (lines_of text).entries ≡ count = cc in record { ends = is; counts = n }
-    go (stopped q) is d = absurd (suc-ne-zero 0 (cc))
+    go (stopped q) is d = cc
 
 pub whole_few : {text : List ℕ} {count : ℕ} → Whole text count → count ≤ most_nodes
 whole_few {text = text} w = omega (arith, few_entries text, w.counts)
@@ -115,20 +112,19 @@ module _ (text : List ℕ) (space : ℕ) where
   entries = (lines_of text).entries
 
   -- A refused schedule has nothing in front.
-  refused_done : (words : List ℕ) {q : ScheduleRefusal} → outcome ≡ refused q → (Refused q ≡ answer_of outcome) × InFront outcome words
+  refused_done : (words : List ℕ) {q : ScheduleRefusal} → outcome ≡ refused q → (Err q ≡ answer_of outcome) × InFront outcome words
   refused_done words e = rw e (refl, record { is = refl })
 
-  pub line_refused : (words : List ℕ) {r : Counted} {q : ScheduleRefusal} → r ≡ told_lines (lines_of text) → r ≡ counts.Refused q
-      → (Refused q ≡ answer_of outcome) × InFront outcome words
+  pub line_refused : (words : List ℕ) {q : ScheduleRefusal} → Err q ≡ told_lines (lines_of text) → (Err q ≡ answer_of outcome) × InFront outcome words
   unfolding scheduling
-  line_refused words {r = r} {q = q} d e = refused_done words (go (lines_of text).ending d)
+  line_refused words {q = q} d = refused_done words (go (lines_of text).ending d)
     where
-      go : (ending : ScheduleEnding) → r ≡ counted (length (lines_of text).entries) ending → scheduled_lines (lines_of text).entries ending space ≡ refused q
-      go whole d = absurd (suc-ne-zero 0 (cc))
+      go : (ending : ScheduleEnding) → Err q ≡ counted (length (lines_of text).entries) ending → scheduled_lines (lines_of text).entries ending space ≡ refused q
+      go whole d = cc
       go (stopped p) d = let a : p ≡ q = cc in rw a
 
   module _ {count : ℕ} (w : Whole text count) where
-    pub lines_none : (words : List ℕ) → count ≡ 0 → (Refused (OutOfRange 0) ≡ answer_of outcome) × InFront outcome words
+    pub lines_none : (words : List ℕ) → count ≡ 0 → (Err (OutOfRange 0) ≡ answer_of outcome) × InFront outcome words
     unfolding scheduling
     lines_none words z = refused_done words (rw w.ends (unless_stop (no_lines entries) _ (table_of entries) (eq-eqb (length entries) 0 (w.counts ∙ z))))
 
@@ -137,21 +133,21 @@ module _ (text : List ℕ) (space : ℕ) where
       unfolding scheduling
       fitted = rw w.ends (unless_pass (no_lines entries) _ (table_of entries) (ne_eqb (length entries) 0 (λ z. some (sym w.counts ∙ z))))
 
-      pub list_short : (words : List ℕ) → space ≤ 2 + 2 * count → (Refused (TableTooShort (2 + 2 * count + 1)) ≡ answer_of outcome) × InFront outcome words
+      pub list_short : (words : List ℕ) → space ≤ 2 + 2 * count → (Err (TableTooShort (2 + 2 * count + 1)) ≡ answer_of outcome) × InFront outcome words
       list_short words h =
           let n : length (table_of (lines_of text).entries) ≡ 2 + 2 * count + 1 = omega (arith, length-table_of (lines_of text).entries, w.counts) in
           refused_done words (fitted ∙ fitting_short TableTooShort (table_of entries) space (omega arith) ∙ ap (λ (k : ℕ). refused (TableTooShort k)) n)
 
       -- The words of an accepted table, stored around those of the nodes.
       pub stands : (words words₁ : List ℕ) → most_schedule_words ≤ length words → words₁ ≡ sets words 2 (entry_words (lines_of text).entries) → 2 + 2 * count < space
-          → (Accepted (2 + 2 * count + 1) ≡ answer_of outcome) × InFront outcome (set (set (set words₁ 0 1) 1 count) (2 + 2 * count) 0)
+          → (Ok (2 + 2 * count + 1) ≡ answer_of outcome) × InFront outcome (set (set (set words₁ 0 1) 1 count) (2 + 2 * count) 0)
       stands words words₁ long s h =
           let table = table_of (lines_of text).entries in
           let n : length table ≡ 2 + 2 * count + 1 = omega (arith, length-table_of (lines_of text).entries, w.counts) in
           let is : outcome ≡ accepted table = fitted ∙ fitting_whole TableTooShort table space (omega arith) in
           let front : take (length table) (sets words 0 table) ≡ table =
           take-sets (length table) words table (omega (arith, whole_few w)) (omega arith) ∙ take-length table in
-          rw (is, s, table-sets words (lines_of text).entries count w.counts) (ap Accepted (sym n), record { is = front })
+          rw (is, s, table-sets words (lines_of text).entries count w.counts) (ap (λ (k : ℕ). Ok k) (sym n), record { is = front })
 
 -- ---- What is written
 
@@ -171,31 +167,18 @@ written_fits text space = go (lines_of text).ending
         subst (Fits space) (sym (unless_none table)) (ltb-false space (length table) h)))
     go (stopped q) = omega arith
 
-module _ (outcome : ScheduleOutcome) {told : Scheduled} {count : ℕ} (is : told ≡ answer_of outcome) (n : count ≡ written_count told) where
-  pub count_is : count ≡ length (written outcome)
-  count_is = n ∙ ap written_count is ∙ go outcome
-    where
-      go : (o : ScheduleOutcome) → written_count (answer_of o) ≡ length (written o)
-      go (accepted table) = refl
-      go (refused q) = refl
+-- The words of a table that is accepted, at the front of a list.
+pub record Accepted (outcome : ScheduleOutcome) (count : ℕ) (words : List ℕ) : Type 0 where
+  pub is : outcome ≡ accepted (take count words)
+  pub fits : count ≤ length words
 
-  module _ {words : List ℕ} (front : InFront outcome words) where
-    pub count_fits : count ≤ length words
-    count_fits = omega (arith, count_is, ap length front.is, length-take (length (written outcome)) words)
+pub accepted_is : (outcome : ScheduleOutcome) {count : ℕ} {words : List ℕ} → Ok count ≡ answer_of outcome → InFront outcome words → Accepted outcome count words
+accepted_is (accepted table) {count} {words} a front =
+    let n : length table ≡ count = cc in
+    let is : take count words ≡ table = rw n at front.is in
+    record { is = ap accepted (sym is); fits = omega (arith, n, ap length is, length-take count words) }
+accepted_is (refused q) a front = cc
 
-    taken : take count words ≡ written outcome
-    taken = ap (λ (k : ℕ). take k words) count_is ∙ front.is
-
-    -- Copied to a list.
-    pub copied : (table : List ℕ) {table' : List ℕ} → table' ≡ sets table 0 (take count words) → (told ≡ answer_of outcome) × (table' ≡ after (λ words. words) outcome table)
-    copied table c = (is, c ∙ ap (sets table 0) taken)
-
-    -- Stored in bytes, with the answer.
-    pub stored : (table answer : List ℕ) {table' answer' : List ℕ} {number figure : ℕ} → length (written outcome) ≤ length table / 4 → 16 ≤ length answer
-        → table' ≡ sets table 0 (bytes_of (take (length table / 4) (take count words)))
-        → number ≡ schedule_number told → figure ≡ schedule_figure told → answer' ≡ answered 2 (number ∷ figure ∷ []) answer
-        → OutcomeCall 2 numbers_of bytes_of outcome table answer 1 table' answer'
-    stored table answer fits long s k v a =
-        let all : take (length table / 4) (take count words) ≡ written outcome = ap (take (length table / 4)) taken ∙ take_all (length table / 4) (written outcome) fits in
-        call_done _ answer _ (omega arith) (s ∙ ap (λ (l : List ℕ). sets table 0 (bytes_of l)) all ∙ bytes_after (λ words. words) outcome table)
-        (answer-told answer (k ∙ ap schedule_number is) (v ∙ ap schedule_figure is) a)
+pub refused_is : (outcome : ScheduleOutcome) {q : ScheduleRefusal} → Err q ≡ answer_of outcome → outcome ≡ refused q
+refused_is (accepted table) a = cc
+refused_is (refused r) {q} a = let e : r ≡ q = cc in ap refused e

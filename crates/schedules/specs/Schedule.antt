@@ -1,5 +1,5 @@
 -- The schedule of a text: its lines, judged one by one, and the room table that they give.
-use Rattle.std.specs.Prelude.{Bool, cond, ◌&&◌, List, [], ◌∷◌, map, ℕ, zero, suc, ◌*◌, eqb, leb, ltb, length}
+use Rattle.std.specs.Prelude.{Bool, cond, ◌&&◌, List, [], ◌∷◌, map, ℕ, zero, suc, ◌*◌, eqb, leb, ltb, length, Result, Ok, Err}
 use Rattle.outcomes.specs.Outcome.{Outcome, accepted, refused, Reason, unless, too_short}
 use Rattle.outcomes.specs.Part as outcomes
 use Rattle.rooms.specs.Table.{Node, Room, most_nodes}
@@ -9,8 +9,6 @@ use Rattle.schedules.specs.Text.{Step, good, bad, malformed, line}
 use Rattle.schedules.specs.declared.Entry.{Entry}
 use Rattle.schedules.specs.declared.ScheduleRefusal.{ScheduleRefusal}
 use Rattle.schedules.specs.declared.ScheduleRefusal.TheVariants.{NotALine, NotASize, OutOfRange, TableTooShort}
-use Rattle.schedules.specs.declared.Scheduled.{Scheduled}
-use Rattle.schedules.specs.declared.Scheduled.TheVariants.{Accepted, Refused}
 
 -- ---- Numbers and places
 
@@ -29,13 +27,13 @@ schedule_refusal_place (OutOfRange place) = place
 schedule_refusal_place (TableTooShort place) = place
 
 -- An answer's number, 0 if accepted, and its figure: the word count, or the refusal's place.
-abbrev pub schedule_number : Scheduled → ℕ
-schedule_number (Accepted count) = 0
-schedule_number (Refused refusal) = schedule_refusal_number refusal
+abbrev pub schedule_number : Result ℕ ScheduleRefusal → ℕ
+schedule_number (Ok count) = 0
+schedule_number (Err refusal) = schedule_refusal_number refusal
 
-abbrev pub schedule_figure : Scheduled → ℕ
-schedule_figure (Accepted count) = count
-schedule_figure (Refused refusal) = schedule_refusal_place refusal
+abbrev pub schedule_figure : Result ℕ ScheduleRefusal → ℕ
+schedule_figure (Ok count) = count
+schedule_figure (Err refusal) = schedule_refusal_place refusal
 
 -- ---- One line
 
@@ -130,6 +128,6 @@ unfoldable pub scheduling : List ℕ → ℕ → ScheduleOutcome
 scheduling text words = scheduled_lines (lines_of text).entries (lines_of text).ending words
 
 -- The answer to an outcome.
-abbrev pub answer_of : ScheduleOutcome → Scheduled
-answer_of (accepted table) = Accepted (length table)
-answer_of (refused refusal) = Refused refusal
+abbrev pub answer_of : ScheduleOutcome → Result ℕ ScheduleRefusal
+answer_of (accepted table) = Ok (length table)
+answer_of (refused refusal) = Err refusal

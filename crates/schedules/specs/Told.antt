@@ -1,41 +1,27 @@
 -- What the private functions tell. No public contract rests on these.
-use Rattle.std.specs.Prelude.{◌≡◌, List, ℕ, length, take}
+use Rattle.std.specs.Prelude.{◌≡◌, List, ℕ, length, take, Option, Some, None, Result, Ok, Err}
 use Rattle.outcomes.specs.Outcome as outcomes
 use Rattle.schedules.specs.Text.{Step, good, bad, malformed}
-use Rattle.schedules.specs.Schedule.{rating, Judgement, ScheduleEnding, whole, stopped, Lines, ScheduleOutcome}
+use Rattle.schedules.specs.Schedule.{Judgement, ScheduleEnding, whole, stopped, Lines, ScheduleOutcome}
 use Rattle.schedules.specs.declared.Entry.{Entry}
-use Rattle.schedules.specs.declared.Scheduled.{Scheduled}
-use Rattle.schedules.specs.declared.Scheduled.TheVariants.{Accepted, Refused}
-use Rattle.schedules.specs.declared.text.Number.{Number}
-use Rattle.schedules.specs.declared.text.Number.TheVariants as numbers
-use Rattle.schedules.specs.declared.text.ScheduleLine.{ScheduleLine}
-use Rattle.schedules.specs.declared.text.ScheduleLine.TheVariants as lines
-use Rattle.schedules.specs.declared.lines.JudgedLine.{JudgedLine}
-use Rattle.schedules.specs.declared.lines.JudgedLine.TheVariants as judges
-use Rattle.schedules.specs.declared.lines.Counted.{Counted}
-use Rattle.schedules.specs.declared.lines.Counted.TheVariants as counts
+use Rattle.schedules.specs.declared.ScheduleRefusal.{ScheduleRefusal}
 
--- A number and the place after it.
-unfoldable pub told_number : Step ℕ → Number
-told_number (good value next) = numbers.Value value next
-told_number (bad malformed) = numbers.Nothing
+-- What a part of a text gives, and the place after it.
+abbrev pub told : {A : Type 0} → Step A → Option (A × ℕ)
+told (good value next) = Some (value, next)
+told (bad malformed) = None
 
--- An entry and the place after its line.
-unfoldable pub told_line : Step Entry → ScheduleLine
-told_line (good e next) = lines.Of e next
-told_line (bad malformed) = lines.Nothing
-
--- A line's node and the place after the line, or its refusal.
-unfoldable pub told_node : Judgement → JudgedLine
-told_node (good e next) = judges.Node e.parent (rating e) next
-told_node (bad refusal) = judges.Refused refusal
+-- A line's entry and the place after the line, or its refusal.
+abbrev pub told_judgement : Judgement → Result (Entry × ℕ) ScheduleRefusal
+told_judgement (good e next) = Ok (e, next)
+told_judgement (bad refusal) = Err refusal
 
 -- The count of lines, or the first refusal.
-abbrev pub counted : ℕ → ScheduleEnding → Counted
-counted count whole = counts.Lines count
-counted count (stopped refusal) = counts.Refused refusal
+abbrev pub counted : ℕ → ScheduleEnding → Result ℕ ScheduleRefusal
+counted count whole = Ok count
+counted count (stopped refusal) = Err refusal
 
-abbrev pub told_lines : Lines → Counted
+abbrev pub told_lines : Lines → Result ℕ ScheduleRefusal
 told_lines l = counted (length l.entries) l.ending
 
 -- What is written to the list: the table, or nothing.
@@ -45,8 +31,3 @@ written = outcomes.written (λ words. words)
 -- What is written stands at the front of a list.
 pub record InFront (outcome : ScheduleOutcome) (list : List ℕ) : Type 0 where
   pub is : take (length (written outcome)) list ≡ written outcome
-
--- How many words an answer says are written.
-abbrev pub written_count : Scheduled → ℕ
-written_count (Accepted count) = count
-written_count (Refused refusal) = 0

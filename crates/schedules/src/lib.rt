@@ -3,12 +3,11 @@
 
 ghost use Rattle.std.specs.Prelude.{◌≡◌, ◌≤◌, length};
 ghost use Rattle.outcomes.specs.Outcome.{after};
-ghost use Rattle.schedules.specs.Schedule.{schedule_refusal_number, schedule_refusal_place, schedule_number, schedule_figure};
+ghost use Rattle.schedules.specs.Schedule.{schedule_refusal_number, schedule_refusal_place};
 ghost use Rattle.schedules.specs.Schedule.{most_schedule_words, scheduling, answer_of};
 ghost use Rattle.schedules.specs.Call.{ScheduleCall};
-ghost use Rattle.schedules.specs.Told.{InFront, written_count};
+ghost use Rattle.schedules.specs.Told.{InFront};
 
-use crate::lines::Counted;
 use calls::ANSWER_BYTES;
 
 mod lines;
@@ -16,7 +15,7 @@ mod sizes;
 mod text;
 
 // What a line says.
-#[derive(Clone, Copy)]
+#[derive(Clone, Copy, Debug, PartialEq, Eq)]
 pub struct Entry {
     pub parent: u32,
     pub amperes: u32,
@@ -24,19 +23,12 @@ pub struct Entry {
 }
 
 // Why a schedule is turned back, and where: a line by its place, counted from 0, or the length that the table needs.
-#[derive(Clone, Copy)]
+#[derive(Clone, Copy, Debug, PartialEq, Eq)]
 pub enum ScheduleRefusal {
     NotALine(usize),
     NotASize(usize),
     OutOfRange(usize),
     TableTooShort(usize),
-}
-
-// The answer on a schedule: accepted with the count of words, or refused.
-#[derive(Clone, Copy)]
-pub enum Scheduled {
-    Accepted(usize),
-    Refused(ScheduleRefusal),
 }
 
 impl ScheduleRefusal {
@@ -57,32 +49,10 @@ impl ScheduleRefusal {
         ensures result { result ≡ schedule_refusal_place self }
     {
         match self {
-            ScheduleRefusal::NotALine(place) => place,
-            ScheduleRefusal::NotASize(place) => place,
-            ScheduleRefusal::OutOfRange(place) => place,
-            ScheduleRefusal::TableTooShort(place) => place,
-        }
-    }
-}
-
-impl Scheduled {
-    // The refusal's number, or 0.
-    pub fn number(self) -> u64
-        ensures result { result ≡ schedule_number self }
-    {
-        match self {
-            Scheduled::Accepted(_) => 0,
-            Scheduled::Refused(refusal) => refusal.number(),
-        }
-    }
-
-    // The count of words, or the refusal's place.
-    pub fn figure(self) -> usize
-        ensures result { result ≡ schedule_figure self }
-    {
-        match self {
-            Scheduled::Accepted(count) => count,
-            Scheduled::Refused(refusal) => refusal.place(),
+            ScheduleRefusal::NotALine(place)
+            | ScheduleRefusal::NotASize(place)
+            | ScheduleRefusal::OutOfRange(place)
+            | ScheduleRefusal::TableTooShort(place) => place,
         }
     }
 }
@@ -90,8 +60,8 @@ impl Scheduled {
 // The words of the longest table without servers.
 const MOST_SCHEDULE_WORDS: usize = 1027;
 
-// The table of a schedule, at the front of the list. Refused, it leaves the list unchanged.
-pub fn schedule(text: &[u8], table: &mut [u32]) -> Scheduled
+// The table of a schedule, at the front of the list, and its count of words. Refused, it leaves the list unchanged.
+pub fn schedule(text: &[u8], table: &mut [u32]) -> Result<usize, ScheduleRefusal>
     ensures answer { result ≡ answer_of (scheduling text.now (length table.old)) }
     ensures table { table.new ≡ after (λ words. words) (scheduling text.now (length table.old))
         table.old }
@@ -109,16 +79,15 @@ pub fn schedule_bytes(text: &[u8], table: &mut [u8], answer: &mut [u8]) -> u32
 }
 
 // A schedule by way of a list of its own, which takes the words until all is checked.
-fn schedule_by(text: &[u8], words: &mut [u32], table: &mut [u32]) -> Scheduled
+fn schedule_by(text: &[u8], words: &mut [u32], table: &mut [u32]) -> Result<usize, ScheduleRefusal>
     requires words_long { most_schedule_words ≤ length words.old }
     ensures answer { result ≡ answer_of (scheduling text.now (length table.old)) }
     ensures table { table.new ≡ after (λ words. words) (scheduling text.now (length table.old))
         table.old }
 {
-    let told = schedule_words(text, words, table.len());
-    let count = written_count(told);
+    let count = schedule_words(text, words, table.len())?;
     figures::copy(&words[..count], table);
-    told
+    Ok(count)
 }
 
 // The C call by way of a list of words, of which those of an accepted table are stored.
@@ -130,44 +99,31 @@ fn schedule_bytes_by(text: &[u8], words: &mut [u32], table: &mut [u8], answer: &
         return 0;
     }
     let told = schedule_words(text, words, table.len() / 4);
-    let count = written_count(told);
+    let count = told.unwrap_or(0);
     words::store(&words[..count], table);
-    calls::store_answer(told.number(), told.figure() as u64, answer);
+    match told {
+        Ok(count) => calls::store_answer(0, count as u64, answer),
+        Err(refusal) => calls::store_answer(refusal.number(), refusal.place() as u64, answer),
+    }
     1
 }
 
 // The answer on a text whose table is to go to a list of `space` words. An accepted table stands at the front of `words`.
-fn schedule_words(text: &[u8], words: &mut [u32], space: usize) -> Scheduled
+fn schedule_words(text: &[u8], words: &mut [u32], space: usize) -> Result<usize, ScheduleRefusal>
     requires words_long { most_schedule_words ≤ length words.old }
     ensures answer { result ≡ answer_of (scheduling text.now space) }
     ensures words { InFront (scheduling text.now space) words.new }
 {
-    let counted = lines::read_lines(text, words);
-    let count = match counted {
-        Counted::Lines(count) => count,
-        Counted::Refused(refusal) => {
-            return Scheduled::Refused(refusal);
-        }
-    };
+    let count = lines::read_lines(text, words)?;
     if count == 0 {
-        return Scheduled::Refused(ScheduleRefusal::OutOfRange(0));
+        return Err(ScheduleRefusal::OutOfRange(0));
     }
     let servers = 2 + 2 * count;
     if space <= servers {
-        return Scheduled::Refused(ScheduleRefusal::TableTooShort(servers + 1));
+        return Err(ScheduleRefusal::TableTooShort(servers + 1));
     }
     words[0] = 1;
     words[1] = count as u32;
     words[servers] = 0;
-    Scheduled::Accepted(servers + 1)
-}
-
-// How many words an answer says are written: none where refused.
-fn written_count(told: Scheduled) -> usize
-    ensures result { result ≡ written_count told }
-{
-    match told {
-        Scheduled::Accepted(count) => count,
-        Scheduled::Refused(_) => 0,
-    }
+    Ok(servers + 1)
 }

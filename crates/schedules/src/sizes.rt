@@ -9,15 +9,9 @@ const SIZES: [u32; SIZE_COUNT] = [
     350, 400, 450, 500, 600, 700, 800, 1000, 1200, 1600, 2000, 2500, 3000, 4000, 5000, 6000,
 ];
 
-// Whether amperes are a size. The sizes rise, so the first that is not below the amperes decides.
+// Whether amperes are a size.
 pub fn is_size(amperes: u32) -> bool
     ensures result { result ≡ is_size amperes }
 {
-    for i in 0..SIZE_COUNT {
-        let size = SIZES[i];
-        if amperes <= size {
-            return amperes == size;
-        }
-    }
-    false
+    SIZES.contains(&amperes)
 }

@@ -13,7 +13,7 @@ use Rattle.schedules.specs.Text.{line}
 use Rattle.schedules.specs.Text.{good, bad}
 use Rattle.schedules.specs.Schedule.{rating, Judgement, judged, whole, onto, lines_from, lines_of}
 use Rattle.schedules.specs.Nodes.{entry_words}
-use Rattle.schedules.specs.Told.{told_judgement, counted, told_lines}
+use Rattle.schedules.specs.Told.{counted, told_lines}
 use Rattle.schedules.proofs.LineLaws.{Passed, passed_is, range_is, rating_most}
 use Rattle.schedules.specs.declared.Entry.{Entry}
 use Rattle.schedules.specs.declared.ScheduleRefusal.{ScheduleRefusal}

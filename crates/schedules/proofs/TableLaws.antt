@@ -3,17 +3,17 @@ use mathlib.Core.Path.{◌≡◌, refl, sym, ap, subst, ◌∙◌}
 use mathlib.Core.Bool.{Bool, true, false, cond}
 use mathlib.Core.List.{List, [], ◌∷◌, ◌++◌, map}
 use Prim.Native.Nat.{ℕ, zero, suc, ◌+◌, ◌*◌, ◌/◌, ◌≤◌, ◌<◌}
-use native.Mathlib.Nat.{suc-ne-zero}
 use native.Mathlib.Omega.{arith}
-use lib.ListN.{length, take, set, length-append, length-take, length-map}
+use lib.ListN.{length, take, drop, set, length-append, length-map}
 use lib.Seq.{sets, set_comm, take_all, take-length}
 use lib.Dec.{leb}
-use Rattle.std.proofs.Common.{Ok, Err}
+use Rattle.std.proofs.Common.{Result, Ok, Err}
+use Rattle.std.specs.Result.{result_unwrap_or}
 use borrow.Author.Tests.{ltb-false, eq-eqb, ne_eqb}
 use Rattle.words.specs.Bytes.{bytes_of}
-use Rattle.figures.proofs.Stores.{take-sets, sets-append}
-use Rattle.calls.specs.Call.{answered, OutcomeCall}
-use Rattle.calls.proofs.Calls.{answer-told, call_done}
+use Rattle.figures.proofs.Stores.{take-sets, sets-append, sets-front}
+use Rattle.calls.specs.Call.{answered, told_numbers, OutcomeCall}
+use Rattle.calls.proofs.Calls.{call_done}
 use Rattle.calls.proofs.Fronts.{bytes_after}
 use Rattle.rooms.specs.Table.{most_nodes, form_of}
 use Rattle.rooms.specs.Words.{row_words, words_of_node}
@@ -21,7 +21,7 @@ use Rattle.schedules.specs.Text.{line}
 use Rattle.outcomes.specs.Outcome.{accepted, refused, too_short, fitting, after}
 use Rattle.outcomes.proofs.Outcomes.{unless_stop, unless_pass, unless_either, unless_none, fitting_short, fitting_whole}
 use Rattle.schedules.specs.Text.{good, bad}
-use Rattle.schedules.specs.Schedule.{Judgement, judged, ScheduleEnding, whole, stopped, onto, lines_from, lines_of, rating, node_of, table_of, ScheduleOutcome, no_lines, scheduled_lines, scheduling, answer_of, schedule_number, schedule_figure, most_schedule_words}
+use Rattle.schedules.specs.Schedule.{Judgement, judged, ScheduleEnding, whole, stopped, onto, lines_from, lines_of, rating, node_of, table_of, ScheduleOutcome, no_lines, scheduled_lines, scheduling, answer_of, schedule_refusal_number, schedule_refusal_place, schedule_number, schedule_figure, most_schedule_words}
 use Rattle.schedules.specs.Nodes.{entry_words}
 use Rattle.schedules.specs.Call.{numbers_of}
 use Rattle.schedules.specs.Told.{counted, told_lines, written, InFront}
@@ -167,18 +167,32 @@ written_fits text space = go (lines_of text).ending
         subst (Fits space) (sym (unless_none table)) (ltb-false space (length table) h)))
     go (stopped q) = omega arith
 
--- The words of a table that is accepted, at the front of a list.
-pub record Accepted (outcome : ScheduleOutcome) (count : ℕ) (words : List ℕ) : Type 0 where
-  pub is : outcome ≡ accepted (take count words)
-  pub fits : count ≤ length words
+-- An accepted table, copied to the front of a list.
+pub copied : (outcome : ScheduleOutcome) (table words : List ℕ) {count : ℕ} → Ok count ≡ answer_of outcome → InFront outcome words → count ≤ length table
+    → take count words ++ drop count table ≡ after (λ words. words) outcome table
+copied (accepted t) table words {count} a front h =
+    let n : length t ≡ count = cc in
+    rw (← n, front.is, sets-front, take_all (length table) t (omega arith)) refl
+copied (refused q) table words a front h = cc
 
-pub accepted_is : (outcome : ScheduleOutcome) {count : ℕ} {words : List ℕ} → Ok count ≡ answer_of outcome → InFront outcome words → Accepted outcome count words
-accepted_is (accepted table) {count} {words} a front =
-    let n : length table ≡ count = cc in
-    let is : take count words ≡ table = rw n at front.is in
-    record { is = ap accepted (sym is); fits = omega (arith, n, ap length is, length-take count words) }
-accepted_is (refused q) a front = cc
+-- The numbers that are told of an answer are its number and its figure.
+numbers_told : (r : Result ℕ ScheduleRefusal)
+    → told_numbers (λ count. count ∷ []) schedule_refusal_number schedule_refusal_place r ≡ schedule_number r ∷ schedule_figure r ∷ []
+numbers_told (Ok count) = refl
+numbers_told (Err refusal) = refl
 
-pub refused_is : (outcome : ScheduleOutcome) {q : ScheduleRefusal} → Err q ≡ answer_of outcome → outcome ≡ refused q
-refused_is (accepted table) a = cc
-refused_is (refused r) {q} a = let e : r ≡ q = cc in ap refused e
+-- An accepted table, stored in bytes, with the answer.
+pub stored : (outcome : ScheduleOutcome) (told : Result ℕ ScheduleRefusal) {count : ℕ} {words : List ℕ} (table answer : List ℕ) {table' answer' : List ℕ}
+    → told ≡ answer_of outcome → InFront outcome words → count ≡ result_unwrap_or told 0 → length (written outcome) ≤ length table / 4 → 16 ≤ length answer
+    → table' ≡ sets table 0 (bytes_of (take (length table / 4) (take count words)))
+    → answer' ≡ answered 2 (told_numbers (λ count. count ∷ []) schedule_refusal_number schedule_refusal_place told) answer
+    → OutcomeCall 2 numbers_of bytes_of outcome table answer 1 table' answer'
+stored outcome told {count} {words} table answer is front n fits long s a =
+    let taken : take count words ≡ written outcome = rw (n, is) (go outcome front.is) in
+    let all : take (length table / 4) (take count words) ≡ written outcome = ap (take (length table / 4)) taken ∙ take_all (length table / 4) (written outcome) fits in
+    call_done _ answer _ (omega arith) (s ∙ ap (λ (l : List ℕ). sets table 0 (bytes_of l)) all ∙ bytes_after (λ words. words) outcome table)
+    (rw (numbers_told told, is) at a)
+  where
+    go : (o : ScheduleOutcome) → take (length (written o)) words ≡ written o → take (result_unwrap_or (answer_of o) 0) words ≡ written o
+    go (accepted table) e = e
+    go (refused q) e = e

@@ -1,7 +1,7 @@
 // Breaker schedules: a text of lines, each with the parent, the amperes and the volts of a breaker, turned into a room table.
 #![tactic(auto)]
 
-ghost use Rattle.std.specs.Prelude.{◌≡◌, ◌≤◌, length};
+ghost use Rattle.std.specs.Prelude.{◌≡◌, ◌≤◌, length, IfOk};
 ghost use Rattle.outcomes.specs.Outcome.{after};
 ghost use Rattle.schedules.specs.Schedule.{schedule_refusal_number, schedule_refusal_place};
 ghost use Rattle.schedules.specs.Schedule.{most_schedule_words, scheduling, answer_of};
@@ -9,13 +9,14 @@ ghost use Rattle.schedules.specs.Call.{ScheduleCall};
 ghost use Rattle.schedules.specs.Told.{InFront};
 
 use calls::ANSWER_BYTES;
+use outcomes::Refusal;
 
 mod lines;
 mod sizes;
 mod text;
 
 // What a line says.
-#[derive(Clone, Copy, Debug, PartialEq, Eq)]
+#[derive(Clone, Copy)]
 pub struct Entry {
     pub parent: u32,
     pub amperes: u32,
@@ -23,7 +24,7 @@ pub struct Entry {
 }
 
 // Why a schedule is turned back, and where: a line by its place, counted from 0, or the length that the table needs.
-#[derive(Clone, Copy, Debug, PartialEq, Eq)]
+#[derive(Clone, Copy, PartialEq, Eq)]
 pub enum ScheduleRefusal {
     NotALine(usize),
     NotASize(usize),
@@ -31,11 +32,13 @@ pub enum ScheduleRefusal {
     TableTooShort(usize),
 }
 
-impl ScheduleRefusal {
+impl Refusal for ScheduleRefusal {
+    ghost number_of = { schedule_refusal_number };
+
+    ghost place_of = { schedule_refusal_place };
+
     // The refusal's number.
-    pub fn number(self) -> u64
-        ensures result { result ≡ schedule_refusal_number self }
-    {
+    fn number(self) -> u64 {
         match self {
             ScheduleRefusal::NotALine(_) => 24,
             ScheduleRefusal::NotASize(_) => 25,
@@ -45,14 +48,12 @@ impl ScheduleRefusal {
     }
 
     // The refusal's place.
-    pub fn place(self) -> usize
-        ensures result { result ≡ schedule_refusal_place self }
-    {
+    fn place(self) -> u64 {
         match self {
             ScheduleRefusal::NotALine(place)
             | ScheduleRefusal::NotASize(place)
             | ScheduleRefusal::OutOfRange(place)
-            | ScheduleRefusal::TableTooShort(place) => place,
+            | ScheduleRefusal::TableTooShort(place) => place as u64,
         }
     }
 }
@@ -86,7 +87,7 @@ fn schedule_by(text: &[u8], words: &mut [u32], table: &mut [u32]) -> Result<usiz
         table.old }
 {
     let count = schedule_words(text, words, table.len())?;
-    figures::copy(&words[..count], table);
+    table[..count].copy_from_slice(&words[..count]);
     Ok(count)
 }
 
@@ -101,10 +102,7 @@ fn schedule_bytes_by(text: &[u8], words: &mut [u32], table: &mut [u8], answer: &
     let told = schedule_words(text, words, table.len() / 4);
     let count = told.unwrap_or(0);
     words::store(&words[..count], table);
-    match told {
-        Ok(count) => calls::store_answer(0, count as u64, answer),
-        Err(refusal) => calls::store_answer(refusal.number(), refusal.place() as u64, answer),
-    }
+    calls::tell(told, answer);
     1
 }
 
@@ -112,6 +110,7 @@ fn schedule_bytes_by(text: &[u8], words: &mut [u32], table: &mut [u8], answer: &
 fn schedule_words(text: &[u8], words: &mut [u32], space: usize) -> Result<usize, ScheduleRefusal>
     requires words_long { most_schedule_words ≤ length words.old }
     ensures answer { result ≡ answer_of (scheduling text.now space) }
+    ensures fits { IfOk result (λ count. count ≤ space) }
     ensures words { InFront (scheduling text.now space) words.new }
 {
     let count = lines::read_lines(text, words)?;

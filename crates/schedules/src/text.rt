@@ -7,6 +7,9 @@ use crate::Entry;
 
 const MOST_DIGITS: usize = 4;
 
+// The digit that no number of more digits begins with.
+const LONE_DIGIT: u8 = b'0';
+
 // The byte at a place; 0 past the end of the text.
 fn byte_at(text: &[u8], at: usize) -> u8
     ensures result { result ≡ byte_at text.now at }
@@ -20,7 +23,7 @@ fn read_number(text: &[u8], at: usize) -> Option<(u32, usize)>
     ensures result { result ≡ told (number text.now at) }
 {
     let first = byte_at(text, at);
-    if first == b'0' {
+    if first == LONE_DIGIT {
         return Some((0, at + 1));
     }
     if !first.is_ascii_digit() {

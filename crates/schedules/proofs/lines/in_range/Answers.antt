@@ -1,6 +1,5 @@
 -- `in_range` meets its contract.
-use Rattle.std.proofs.Common.{arith, rules}
-use Rattle.std.proofs.lemmas.Grind.{common_steps}
+use Rattle.std.proofs.Common.{arith}
 use Rattle.std.proofs.lemmas.Bool.Decides.{nat_tests}
 use Rattle.schedules.specs.Schedule.{in_range}
 use Rattle.schedules.proofs.lines.in_range.Goals as goal

@@ -18,7 +18,7 @@ returns-in_err-volts c =
     rw (
       c.from_residual-in_err-volts.ensures,
       line_third _ _ (told_good _ c.in_ok-parent.ensures.result) (told_good _ c.in_ok-amperes.ensures.result)
-      (told_bad _ c.in_err-volts.ensures.result),
+          (told_bad _ c.in_err-volts.ensures.result),
     ) (record { result = refl })
 
 pub returns : goal.returns

@@ -6,6 +6,7 @@ use mathlib.Core.Logic.{◌⊎◌, inl, inr}
 use Prim.Native.Nat.{ℕ, zero, suc, ◌*◌, ◌^◌, ◌<◌, ◌≤◌}
 use native.Mathlib.Nat.{zero-lt-suc, zero-mul}
 use native.Mathlib.Omega.{arith}
+use Rattle.std.proofs.Common.{Ok}
 use lib.IntN.{pos}
 use lib.Dec.{T, eqb, eqb→eq}
 use lib.ListN.{length, get_or}
@@ -19,9 +20,7 @@ use Rattle.control.specs.declared.DcWatts.{DcWatts}
 use Rattle.control.specs.declared.Reading.{Reading}
 use Rattle.control.specs.declared.Reading.TheVariants.{Working, Failed}
 use Rattle.control.specs.declared.Controller.{Controller}
-use Rattle.control.specs.declared.Stepped.{Stepped}
-use Rattle.control.specs.declared.Stepped.TheVariants.{Next}
-use Rattle.control.specs.Step.{ac, float0, ordered, errors, lesser, least, dc_change, sum, cut, with_cap, successor, stepped, step_number}
+use Rattle.control.specs.Step.{ac, float0, ordered, errors, lesser, least, dc_change, sum, cut, with_cap, successor, Stepped, stepped, step_number}
 use Rattle.control.specs.Promises.{AcceptedStep, Sound, Kept, FirstLeast}
 use Rattle.control.proofs.FloatOrder.{real, from_true, not_lt, le_refl, le_trans, lt_le, le_lt_trans, lt_le_trans, eq_refl, finite_real, bottomless_up, topless_down, finite_bottomless, finite_topless, is_finite}
 use Rattle.control.proofs.FloatRounding.{zeroed, no_size, add_real, mul_real, mul-zero, count_positive}
@@ -50,7 +49,7 @@ accepted s = go (outcome s.controller s.readings)
     go (bad_controller unsound e) = absurd (omega (arith, number, ap step_number e))
     go (bad_reading sound i found e) = absurd (omega (arith, number, ap step_number e))
     go (all_sound sound all e) =
-        let same : Next s.next ≡ Next (successor s.controller (errors s.readings)) = sym s.is ∙ e in
+        let same : Ok s.next ≡ Ok (successor s.controller (errors s.readings)) = sym s.is ∙ e in
         record { sound = sound; readings_sound = all; next_is = cc }
 
 -- ---- No NaN

@@ -6,6 +6,7 @@ use Prim.Native.Nat.{ℕ, suc, ◌+◌, ◌<◌, ◌≤◌}
 use native.Mathlib.Nat.{add-zero, ne_of_gt}
 use native.Mathlib.Omega.{arith}
 use borrow.Author.Tests.{ne_eqb}
+use Rattle.std.proofs.Common.{Ok, Err}
 use lib.Dec.{T}
 use lib.ListN.{length, get_or}
 use lib.Ieee.{inf, binary64}
@@ -13,20 +14,20 @@ use Rattle.control.specs.declared.AcWatts.{AcWatts}
 use Rattle.control.specs.declared.Reading.{Reading}
 use Rattle.control.specs.declared.Reading.TheVariants.{Working, Failed}
 use Rattle.control.specs.declared.Controller.{Controller}
-use Rattle.control.specs.declared.Stepped.{Stepped}
-use Rattle.control.specs.declared.Stepped.TheVariants.{Next, Refused}
 use Rattle.control.specs.declared.StepRefusal.{StepRefusal}
+use Rattle.control.specs.declared.StepRefusal.TheVariants.{BadController, BadReading}
 use Rattle.control.specs.declared.Tally.{Tally}
-use Rattle.control.specs.declared.JudgedCords.{JudgedCords}
-use Rattle.control.specs.declared.JudgedCords.TheVariants.{Good, Bad}
-use Rattle.control.specs.Step.{ac, good_controller, good_reading, difference, errors, lesser, least, moved, successor, refusal, judged, stepped}
-use Rattle.control.specs.Judged.{tally_of, no_tally, tallied, moved_by, judged_first, judged_with, stepped_by}
+use Rattle.control.specs.Step.{ac, good_controller, good_reading, difference, errors, lesser, least, moved, successor, Stepped, refused, judged, stepped}
+use Rattle.control.specs.Judged.{tally_of, no_tally, tallied, moved_by, JudgedCords, judged_first, judged_with, judged_all, stepped_by}
 use Rattle.control.specs.Promises.{SoundReading}
 use Rattle.control.proofs.Tests.{cond_true, cond_false}
 use Rattle.control.proofs.FloatOrder.{real, from_true}
 use Rattle.control.proofs.FloatRounding.{sub_real}
 use Rattle.control.proofs.FloatChoice.{lesser_infinite}
 use Rattle.control.proofs.Sound.{good_sound_reading}
+
+abbrev accepted : Controller → Stepped
+accepted next = Ok next
 
 -- ---- Errors
 
@@ -85,7 +86,7 @@ unfolding judged
 judged_good c i reading rest next good = cond_true _ _ good
 
 pub judged_bad : (c : Controller) (i : ℕ) (reading : Reading) (rest : List Reading) (next : Stepped)
-    → good_reading reading ≡ false → Refused (refusal 17 i) c ≡ judged c i (reading ∷ rest) next
+    → good_reading reading ≡ false → refused (BadReading i) c ≡ judged c i (reading ∷ rest) next
 unfolding judged
 judged_bad c i reading rest next bad = cond_false _ _ bad
 
@@ -110,77 +111,66 @@ judged-same c i (Working budget measured ∷ rest) x y f = go (good_reading read
 
 -- ---- Cords judged one by one
 
-unfoldable judged_all : JudgedCords → ℕ → List Reading → JudgedCords
-unfolding judged_with
-judged_all j i [] = j
-judged_all j i (reading ∷ rest) = judged_all (judged_with j i reading) (suc i) rest
-
-all_bad : (why : StepRefusal) (i : ℕ) (readings : List Reading) → judged_all (Bad why) i readings ≡ Bad why
-unfolding judged_all judged_with
+all_bad : (why : StepRefusal) (i : ℕ) (readings : List Reading) → judged_all (Err why) i readings ≡ Err why
 all_bad why i [] = refl
 all_bad why i (reading ∷ rest) = all_bad why (suc i) rest
 
 all_good : (c : Controller) (tally : Tally) (i : ℕ) (readings : List Reading) → tally.working + length readings ≤ 4
-    → stepped_by c (judged_all (Good tally) i readings) ≡ judged c i readings (Next (successor_from c tally (errors readings)))
-unfolding judged_all judged_with judged errors
-all_good c tally i [] h = ap Next (successor_from_end c tally)
+    → stepped_by c (judged_all (Ok tally) i readings) ≡ judged c i readings (Ok (successor_from c tally (errors readings)))
+unfolding judged errors
+all_good c tally i [] h = ap accepted (successor_from_end c tally)
 all_good c tally i (reading ∷ rest) h = go (good_reading reading) refl (all_good c (tallied tally reading) (suc i) rest (tallied-within tally reading rest h))
   where
     after : Stepped
-    after = Next (successor_from c tally (errors (reading ∷ rest)))
+    after = accepted (successor_from c tally (errors (reading ∷ rest)))
 
     more : Tally
     more = tallied tally reading
 
     go : (b : Bool) → good_reading reading ≡ b
-        → stepped_by c (judged_all (Good more) (suc i) rest) ≡ judged c (suc i) rest (Next (successor_from c more (errors rest)))
-        → stepped_by c (judged_all (judged_with (Good tally) i reading) (suc i) rest) ≡ judged c i (reading ∷ rest) after
+        → stepped_by c (judged_all (Ok more) (suc i) rest) ≡ judged c (suc i) rest (Ok (successor_from c more (errors rest)))
+        → stepped_by c (judged_all (judged_with (Ok tally) i reading) (suc i) rest) ≡ judged c i (reading ∷ rest) after
     go true good later =
         ap (λ (j : JudgedCords). stepped_by c (judged_all j (suc i) rest)) (sym (cond_true _ _ good))
         ∙ later
-        ∙ ap (λ (next : Controller). judged c (suc i) rest (Next next)) (successor_from_tallied c tally reading rest (omega (arith, h)))
+        ∙ ap (λ (next : Controller). judged c (suc i) rest (Ok next)) (successor_from_tallied c tally reading rest (omega (arith, h)))
         ∙ judged_good c i reading rest after good
     go false bad later =
         ap (λ (j : JudgedCords). stepped_by c (judged_all j (suc i) rest)) (sym (cond_false _ _ bad))
-        ∙ ap (stepped_by c) (all_bad (refusal 17 i) (suc i) rest)
+        ∙ ap (stepped_by c) (all_bad (BadReading i) (suc i) rest)
         ∙ judged_bad c i reading rest after bad
 
 -- ---- The step
 
 -- A controller that is not good ends the step.
 pub stepped_bad_controller : (c : Controller) (readings : List Reading) → good_controller c ≡ false
-    → Refused (refusal 16 0) c ≡ stepped c readings
+    → refused BadController c ≡ stepped c readings
 unfolding stepped
 stepped_bad_controller c readings bad = cond_false _ _ bad
 
 -- The controller judged, then each cord, make the step.
-stepped_by_all : (c : Controller) (readings : List Reading) → length readings ≤ 4 → stepped_by c (judged_all (judged_first c) 0 readings) ≡ stepped c readings
-unfolding judged_first stepped
+pub stepped_by_all : (c : Controller) (readings : List Reading) → length readings ≤ 4 → stepped_by c (judged_all (judged_first c) 0 readings) ≡ stepped c readings
+unfolding stepped
 stepped_by_all c readings h = go (good_controller c) refl
   where
     go : (b : Bool) → good_controller c ≡ b → stepped_by c (judged_all (judged_first c) 0 readings) ≡ stepped c readings
     go true good =
         ap (λ (j : JudgedCords). stepped_by c (judged_all j 0 readings)) (sym (cond_true _ _ good))
         ∙ all_good c no_tally 0 readings (omega (arith, h))
-        ∙ judged-same c 0 readings _ _ (λ rs. ap Next (successor_from_none c (errors readings) rs))
+        ∙ judged-same c 0 readings _ _ (λ rs. ap accepted (successor_from_none c (errors readings) rs))
         ∙ cond_true _ _ good
     go false bad =
         ap (λ (j : JudgedCords). stepped_by c (judged_all j 0 readings)) (sym (cond_false _ _ bad))
-        ∙ ap (stepped_by c) (all_bad (refusal 16 0) 0 readings)
+        ∙ ap (stepped_by c) (all_bad BadController 0 readings)
         ∙ stepped_bad_controller c readings bad
 
--- The same of four cords.
-pub stepped_by_four : (c : Controller) (first second third fourth : Reading)
-    → stepped_by c (judged_with (judged_with (judged_with (judged_with (judged_first c) 0 first) 1 second) 2 third) 3 fourth) ≡ stepped c (first ∷ second ∷ third ∷ fourth ∷ [])
-unfolding judged_all
-stepped_by_four c first second third fourth = stepped_by_all c (first ∷ second ∷ third ∷ fourth ∷ []) (omega arith)
-
 -- Four readings are those at their places.
-pub four_readings : (readings : List Reading) (d : Reading) → length readings ≡ 4
-    → get_or readings 0 d ∷ get_or readings 1 d ∷ get_or readings 2 d ∷ get_or readings 3 d ∷ [] ≡ readings
-four_readings (first ∷ second ∷ third ∷ fourth ∷ []) d h = refl
-four_readings [] d h = absurd (omega (arith, h))
-four_readings (first ∷ []) d h = absurd (omega (arith, h))
-four_readings (first ∷ second ∷ []) d h = absurd (omega (arith, h))
-four_readings (first ∷ second ∷ third ∷ []) d h = absurd (omega (arith, h))
-four_readings (first ∷ second ∷ third ∷ fourth ∷ fifth ∷ rest) d h = absurd (omega (arith, h))
+pub judged_four : (j : JudgedCords) (readings : List Reading) (d : Reading) → length readings ≡ 4
+    → judged_all j 0 readings
+    ≡ judged_with (judged_with (judged_with (judged_with j 0 (get_or readings 0 d)) 1 (get_or readings 1 d)) 2 (get_or readings 2 d)) 3 (get_or readings 3 d)
+judged_four j (first ∷ second ∷ third ∷ fourth ∷ []) d h = refl
+judged_four j [] d h = absurd (omega (arith, h))
+judged_four j (first ∷ []) d h = absurd (omega (arith, h))
+judged_four j (first ∷ second ∷ []) d h = absurd (omega (arith, h))
+judged_four j (first ∷ second ∷ third ∷ []) d h = absurd (omega (arith, h))
+judged_four j (first ∷ second ∷ third ∷ fourth ∷ fifth ∷ rest) d h = absurd (omega (arith, h))

@@ -6,6 +6,7 @@ use Prim.Native.Nat.{ℕ, zero, suc, ◌<◌, ◌≤◌}
 use native.Mathlib.Nat.{lt_of_not-le}
 use native.Mathlib.Omega.{arith}
 use lib.Dec.{eqb-suc-zero}
+use Rattle.std.proofs.Common.{Ok}
 use lib.ListN.{length}
 use lib.Ieee.{Float, le}
 use lib.Ieee.Bits.{is_true}
@@ -14,8 +15,7 @@ use Rattle.control.specs.declared.AcWatts.{AcWatts}
 use Rattle.control.specs.declared.Reading.{Reading}
 use Rattle.control.specs.declared.Reading.TheVariants.{Working, Failed}
 use Rattle.control.specs.declared.Controller.{Controller}
-use Rattle.control.specs.declared.Stepped.TheVariants.{Next, Refused}
-use Rattle.control.specs.Step.{ac, errors, successor, stepped, step_number, step_place, controller_after}
+use Rattle.control.specs.Step.{ac, errors, successor, Stepped, refused, stepped, step_number, step_place, controller_after}
 use Rattle.control.specs.Call.{reading_of}
 use Rattle.control.specs.Promises.{CapInRange, RangeStays, SuccessorGood, ZeroErrorKeepsCap, LeastError, working, MarkDecides, NoneWorkingKeepsCap, RefusedUnchanged, Sound, FirstUnsound, Refusals}
 use Rattle.control.proofs.FloatOrder.{from_true}
@@ -92,7 +92,7 @@ refused_unchanged c readings why after is = go (outcome c readings)
     go (bad_controller unsound e) = ap controller_after (sym is ∙ e)
     go (bad_reading sound i found e) = ap controller_after (sym is ∙ e)
     go (all_sound sound all e) =
-        let z : Refused why after ≡ Next (successor c (errors readings)) = sym is ∙ e in
+        let z : ◌≡◌ {A = Stepped} (refused why after) (Ok (successor c (errors readings))) = sym is ∙ e in
         let w : ◌≡◌ {A = Bool} true false = cc in
         absurd (true≢false w)
 

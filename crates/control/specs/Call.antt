@@ -1,15 +1,14 @@
 -- A step called from C: a controller and its cords' readings as plain numbers, and what the call returns and leaves in every entry.
 --
 -- Lists are read at a place, so that the same words serve a list of many controllers. What stands past a list's end counts as 0 or NaN.
-use Rattle.std.specs.Prelude.{cond, List, [], ◌∷◌, ℕ, ◌+◌, eqb, get_or, set, Float}
+use Rattle.std.specs.Prelude.{cond, List, [], ◌∷◌, ℕ, ◌+◌, eqb, get_or, set, Float, Result, Ok, Err}
 use Rattle.std.specs.Float.{nan}
 use Rattle.calls.specs.Call.{Call, Left}
 use Rattle.control.specs.declared.Reading.{Reading}
 use Rattle.control.specs.declared.Reading.TheVariants.{Working, Failed}
 use Rattle.control.specs.declared.Controller.{Controller}
-use Rattle.control.specs.declared.Stepped.{Stepped}
-use Rattle.control.specs.declared.Stepped.TheVariants.{Next, Refused}
-use Rattle.control.specs.Step.{ac, dc, stepped, step_number, step_place}
+use Rattle.control.specs.declared.StepRefusal.{StepRefusal}
+use Rattle.control.specs.Step.{ac, dc, Stepped, stepped, step_number, step_place}
 
 -- ---- Plain numbers
 
@@ -44,8 +43,13 @@ step_at figures working budgets measured at = stepped (controller_at figures at)
 
 -- The list after the step of the controller from a place on: an accepted one stores the new cap; a refused one stores nothing.
 abbrev pub figures_after : Stepped → List Float → ℕ → List Float
-figures_after (Next next) figures at = set figures at next.cap.0
-figures_after (Refused why unchanged) figures at = figures
+figures_after (Ok next) figures at = set figures at next.cap.0
+figures_after (Err turned) figures at = figures
+
+-- The answer to a step: the figure 0 where it is accepted, or the refusal.
+abbrev pub answer_of : Stepped → Result ℕ StepRefusal
+answer_of (Ok next) = Ok 0
+answer_of (Err turned) = Err turned.refusal
 
 -- ---- The call
 

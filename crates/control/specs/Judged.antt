@@ -1,6 +1,6 @@
 -- The parts of which the code makes a step, cord by cord. No operation's contract rests on these: what a step is stands in Step.antt, and
 -- proofs/Cords.antt shows that the parts come to it.
-use Rattle.std.specs.Prelude.{false, cond, ℕ, ◌+◌, min, eqb, Float}
+use Rattle.std.specs.Prelude.{false, cond, List, [], ◌∷◌, ℕ, suc, ◌+◌, min, eqb, Float, Result, Ok, Err}
 use Rattle.std.specs.Float.{inf}
 use Rattle.std.specs.Float.Ieee.{lt}
 use Rattle.control.specs.declared.AcWatts.{AcWatts}
@@ -8,11 +8,9 @@ use Rattle.control.specs.declared.Reading.{Reading}
 use Rattle.control.specs.declared.Reading.TheVariants.{Working, Failed}
 use Rattle.control.specs.declared.Controller.{Controller}
 use Rattle.control.specs.declared.Tally.{Tally}
-use Rattle.control.specs.declared.JudgedCords.{JudgedCords}
-use Rattle.control.specs.declared.JudgedCords.TheVariants.{Good, Bad}
-use Rattle.control.specs.declared.Stepped.{Stepped}
-use Rattle.control.specs.declared.Stepped.TheVariants.{Next, Refused}
-use Rattle.control.specs.Step.{ac, good_controller, good_reading, difference, lesser, moved, refusal}
+use Rattle.control.specs.declared.StepRefusal.{StepRefusal}
+use Rattle.control.specs.declared.StepRefusal.TheVariants.{BadController, BadReading}
+use Rattle.control.specs.Step.{ac, good_controller, good_reading, difference, lesser, moved, Stepped, refused}
 
 -- Of two figures the one that is not the lesser.
 abbrev pub greater_figure : Float → Float → Float
@@ -38,18 +36,25 @@ moved_by c tally = cond (eqb tally.working 0) c (moved c tally.least tally.worki
 
 -- ---- A controller and its cords, judged in order
 
+-- All that are judged so far are good, and the cords come to a tally; or the refusal of the first that is not.
+abbrev pub JudgedCords : Type 0
+JudgedCords = Result Tally StepRefusal
+
 -- The controller, before its cords.
-unfoldable pub judged_first : Controller → JudgedCords
-unfolding good_controller
-judged_first c = cond (good_controller c) (Good no_tally) (Bad (refusal 16 0))
+abbrev pub judged_first : Controller → JudgedCords
+judged_first c = cond (good_controller c) (Ok no_tally) (Err BadController)
 
 -- With the cord at a place; a refusal stands.
-unfoldable pub judged_with : JudgedCords → ℕ → Reading → JudgedCords
-unfolding good_reading
-judged_with (Good tally) place reading = cond (good_reading reading) (Good (tallied tally reading)) (Bad (refusal 17 place))
-judged_with (Bad why) place reading = Bad why
+abbrev pub judged_with : JudgedCords → ℕ → Reading → JudgedCords
+judged_with (Ok tally) place reading = cond (good_reading reading) (Ok (tallied tally reading)) (Err (BadReading place))
+judged_with (Err why) place reading = Err why
+
+-- With cords in order, the first of which has a place.
+abbrev pub judged_all : JudgedCords → ℕ → List Reading → JudgedCords
+judged_all judged place [] = judged
+judged_all judged place (reading ∷ rest) = judged_all (judged_with judged place reading) (suc place) rest
 
 -- The step, once all are judged.
 abbrev pub stepped_by : Controller → JudgedCords → Stepped
-stepped_by c (Good tally) = Next (moved_by c tally)
-stepped_by c (Bad why) = Refused why c
+stepped_by c (Ok tally) = Ok (moved_by c tally)
+stepped_by c (Err why) = refused why c

@@ -2,7 +2,7 @@
 -- proofs/Promises.antt proves each: `CapInRange` as `cap_in_range`, and so on.
 --
 -- A test that holds is written `test ≡ true`. `eq` is the floats' `==`, by which −0 equals +0; `finite` holds of all but NaN and the infinities.
-use Rattle.std.specs.Prelude.{◌≡◌, true, false, List, [], ◌∷◌, ◌↔◌, ℕ, suc, ◌<◌, length, get_or, Float}
+use Rattle.std.specs.Prelude.{◌≡◌, true, false, List, [], ◌∷◌, ◌↔◌, ℕ, suc, ◌<◌, length, get_or, Float, Ok}
 use Rattle.std.specs.Float.{nan, binary64}
 use Rattle.std.specs.Float.Ieee.{fits, lt, le, eq}
 use Rattle.std.specs.Float.Ieee.Scale.{finite}
@@ -11,8 +11,7 @@ use Rattle.control.specs.declared.Reading.{Reading}
 use Rattle.control.specs.declared.Reading.TheVariants.{Working, Failed}
 use Rattle.control.specs.declared.Controller.{Controller}
 use Rattle.control.specs.declared.StepRefusal.{StepRefusal}
-use Rattle.control.specs.declared.Stepped.TheVariants.{Next, Refused}
-use Rattle.control.specs.Step.{float0, float1, most_watts, ac, ordered, good_controller, errors, least, stepped, step_number, step_place}
+use Rattle.control.specs.Step.{float0, float1, most_watts, ac, ordered, good_controller, errors, least, refused, stepped, step_number, step_place}
 use Rattle.control.specs.Call.{reading_of}
 
 -- ---- Accepted steps
@@ -23,7 +22,7 @@ pub record AcceptedStep : Type 0 where
   pub readings : List Reading
   pub next : Controller
   pub four : length readings ≡ 4
-  pub is : stepped controller readings ≡ Next next
+  pub is : stepped controller readings ≡ Ok next
 
 -- The new cap lies from low to high.
 abbrev pub CapInRange : Type 0
@@ -86,7 +85,7 @@ NoneWorkingKeepsCap = (s : AcceptedStep) → working s.readings ≡ 0 → s.next
 
 -- A refused step leaves the controller unchanged.
 abbrev pub RefusedUnchanged : Type 0
-RefusedUnchanged = (c : Controller) (readings : List Reading) (why : StepRefusal) (after : Controller) → stepped c readings ≡ Refused why after
+RefusedUnchanged = (c : Controller) (readings : List Reading) (why : StepRefusal) (after : Controller) → stepped c readings ≡ refused why after
     → after ≡ c
 
 -- What refusal 16 asks of a controller, in document 02's words.

@@ -2,7 +2,7 @@
 --
 -- `lt`, `le`, `sub`, `mul` and `add` are the float operators `<`, `<=`, `-`, `*` and `+`. An operation's exact result is rounded once, to
 -- the nearest float. Every comparison with a NaN is false.
-use Rattle.std.specs.Prelude.{Bool, true, false, cond, ◌&&◌, List, [], ◌∷◌, ℕ, suc, pos, length, Float}
+use Rattle.std.specs.Prelude.{Bool, true, false, cond, ◌&&◌, List, [], ◌∷◌, ℕ, suc, pos, length, Float, Result, Ok, Err}
 use Rattle.std.specs.Float.{fin, binary64}
 use Rattle.std.specs.Float.Ieee.{add, sub, mul, lt, le, of_int}
 use Rattle.control.specs.declared.AcWatts.{AcWatts}
@@ -11,8 +11,8 @@ use Rattle.control.specs.declared.Reading.{Reading}
 use Rattle.control.specs.declared.Reading.TheVariants.{Working, Failed}
 use Rattle.control.specs.declared.Controller.{Controller}
 use Rattle.control.specs.declared.StepRefusal.{StepRefusal}
-use Rattle.control.specs.declared.Stepped.{Stepped}
-use Rattle.control.specs.declared.Stepped.TheVariants.{Next, Refused}
+use Rattle.control.specs.declared.StepRefusal.TheVariants.{BadController, BadReading}
+use Rattle.control.specs.declared.RefusedStep.{RefusedStep}
 
 -- ---- Figures
 
@@ -111,31 +111,44 @@ successor c (error ∷ rest) = moved c (least error rest) (suc (length rest))
 
 -- ---- The step
 
-abbrev pub refusal : ℕ → ℕ → StepRefusal
-refusal number place = record { number = number; place = place }
+-- What a step gives: the controller's successor; or the refusal, beside the controller as it was.
+abbrev pub Stepped : Type 0
+Stepped = Result Controller RefusedStep
+
+abbrev pub refused : StepRefusal → Controller → Stepped
+refused why c = Err (record { refusal = why; controller = c })
 
 -- Readings judged in order, the first being that of cord i: 17 at the first that is not good, or what follows if all are.
 unfoldable pub judged : Controller → ℕ → List Reading → Stepped → Stepped
 unfolding good_reading
 judged c i [] next = next
-judged c i (reading ∷ rest) next = cond (good_reading reading) (judged c (suc i) rest next) (Refused (refusal 17 i) c)
+judged c i (reading ∷ rest) next = cond (good_reading reading) (judged c (suc i) rest next) (refused (BadReading i) c)
 
 -- A step: 16 at place 0 if the controller is not good; then 17 at the first cord whose reading is not; else the successor.
 unfoldable pub stepped : Controller → List Reading → Stepped
 unfolding good_controller judged errors successor
-stepped c readings = cond (good_controller c) (judged c 0 readings (Next (successor c (errors readings)))) (Refused (refusal 16 0) c)
+stepped c readings = cond (good_controller c) (judged c 0 readings (Ok (successor c (errors readings)))) (refused BadController c)
 
 -- ---- Numbers and places
 
+-- A refusal's number in document 02, and its place: the cord of a bad reading.
+abbrev pub step_refusal_number : StepRefusal → ℕ
+step_refusal_number BadController = 16
+step_refusal_number (BadReading cord) = 17
+
+abbrev pub step_refusal_place : StepRefusal → ℕ
+step_refusal_place BadController = 0
+step_refusal_place (BadReading cord) = cord
+
 -- A step's number, 0 if accepted; its place, 0 if accepted; and the controller after it.
 abbrev pub step_number : Stepped → ℕ
-step_number (Next next) = 0
-step_number (Refused why unchanged) = why.number
+step_number (Ok next) = 0
+step_number (Err turned) = step_refusal_number turned.refusal
 
 abbrev pub step_place : Stepped → ℕ
-step_place (Next next) = 0
-step_place (Refused why unchanged) = why.place
+step_place (Ok next) = 0
+step_place (Err turned) = step_refusal_place turned.refusal
 
 abbrev pub controller_after : Stepped → Controller
-controller_after (Next next) = next
-controller_after (Refused why unchanged) = unchanged
+controller_after (Ok next) = next
+controller_after (Err turned) = turned.controller

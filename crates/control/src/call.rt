@@ -1,9 +1,10 @@
 // A step called from C: four figures of a controller, and a mark and two figures for each of its four cords.
 ghost use Rattle.std.specs.Prelude.{◌≡◌};
-ghost use Rattle.control.specs.Call.{controller_of, reading_of, readings_at, figures_after, StepCall};
+ghost use Rattle.control.specs.Call.{controller_of, reading_of, readings_at, figures_after, answer_of, StepCall};
 
-use crate::{AcWatts, Controller, DcWatts, Reading, Stepped};
+use crate::{AcWatts, Controller, DcWatts, Reading, RefusedStep, StepRefusal};
 use calls::ANSWER_BYTES;
+use std::array;
 
 impl Controller {
     // The controller of four figures.
@@ -36,22 +37,24 @@ impl Reading {
 fn readings(working: &[u8; 4], budgets: &[f64; 4], measured: &[f64; 4]) -> [Reading; 4]
     ensures result { result ≡ readings_at working.now budgets.now measured.now 0 }
 {
-    let first = Reading::of(working[0], budgets[0], measured[0]);
-    let second = Reading::of(working[1], budgets[1], measured[1]);
-    let third = Reading::of(working[2], budgets[2], measured[2]);
-    let fourth = Reading::of(working[3], budgets[3], measured[3]);
-    [first, second, third, fourth]
+    array::from_fn(|cord| Reading::of(working[cord], budgets[cord], measured[cord]))
 }
 
-// Stores the new cap of an accepted step. After a refused one nothing is stored, so that also a NaN keeps its bits.
-fn keep_cap(stepped: Stepped, controller: &mut [f64; 4])
+// Stores the new cap of an accepted step, and gives the answer: the figure 0, or the refusal. After a refused one nothing is stored, so that
+// also a NaN keeps its bits.
+fn keep_cap(
+    stepped: Result<Controller, RefusedStep>,
+    controller: &mut [f64; 4],
+) -> Result<u64, StepRefusal>
     ensures controller { controller.new ≡ figures_after stepped controller.old 0 }
+    ensures answer { result ≡ answer_of stepped }
 {
     match stepped {
-        Stepped::Next(next) => {
+        Ok(next) => {
             controller[0] = next.cap.0;
+            Ok(0)
         }
-        Stepped::Refused(_, _) => {}
+        Err(refused) => Err(refused.refusal),
     }
 }
 
@@ -72,7 +75,6 @@ pub fn step_in_place(
     }
     let before = Controller::of(controller[0], controller[1], controller[2], controller[3]);
     let stepped = before.step(readings(working, budgets, measured));
-    keep_cap(stepped, controller);
-    calls::store_answer(stepped.number(), stepped.place(), answer);
+    calls::tell(keep_cap(stepped, controller), answer);
     1
 }

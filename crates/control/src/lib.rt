@@ -3,21 +3,20 @@
 // This is A.6 of document 02, after section IV.B of the report. Figures are 64-bit floats; each operation is rounded once.
 #![tactic(auto)]
 
-ghost use Rattle.std.specs.Prelude.{◌≡◌, ◌&&◌, ◌+◌, min};
+ghost use Rattle.std.specs.Prelude.{◌≡◌, ◌&&◌, Ok};
 ghost use Rattle.control.specs.Step.{float0, most_watts, ordered, is_efficiency, difference, lesser_figure, lesser, dc_change, sum, cut_figure};
-ghost use Rattle.control.specs.Step.{cut, good_reading, good_controller, moved, stepped, refusal, step_number, step_place, controller_after};
-ghost use Rattle.control.specs.declared.JudgedCords.TheVariants.{Bad};
-ghost use Rattle.control.specs.Judged.{greater_figure, no_tally, tallied, moved_by, judged_first, judged_with, stepped_by};
+ghost use Rattle.control.specs.Step.{cut, good_reading, good_controller, moved, stepped, step_refusal_number, step_refusal_place};
+ghost use Rattle.control.specs.Judged.{greater_figure, no_tally, tallied, moved_by, judged_first, judged_with, judged_all, stepped_by};
+
+use outcomes::Refusal;
 
 pub mod call;
 
 // The greatest watts of a budget, of a measurement and of a cap.
 const MOST_WATTS: f64 = 16_777_215.0;
 
-// Refusals: a controller that is not good, and a working cord with a figure that is not.
-const BAD_CONTROLLER: u64 = 16;
-
-const BAD_READING: u64 = 17;
+// The cords of a server.
+const CORDS: u32 = 4;
 
 // AC watts: what a cord draws, or may draw, from its feed.
 #[derive(Clone, Copy)]
@@ -43,18 +42,18 @@ pub struct Controller {
     pub high: DcWatts,
 }
 
-// Why a step is turned back: document 02's number, and the place.
-#[derive(Clone, Copy)]
-pub struct StepRefusal {
-    pub number: u64,
-    pub place: u64,
+// Why a step is turned back: the controller is not good; or the working cord at a place has a figure that is not.
+#[derive(Clone, Copy, PartialEq, Eq)]
+pub enum StepRefusal {
+    BadController,
+    BadReading(u64),
 }
 
-// What a step gives: the controller's successor; or the refusal, beside the controller as it was.
+// A step that is turned back: the refusal, beside the controller as it was.
 #[derive(Clone, Copy)]
-pub enum Stepped {
-    Next(Controller),
-    Refused(StepRefusal, Controller),
+pub struct RefusedStep {
+    pub refusal: StepRefusal,
+    pub controller: Controller,
 }
 
 // What good cords come to: how many of them work, and the least error of those.
@@ -64,11 +63,26 @@ pub struct Tally {
     pub working: u32,
 }
 
-// A controller and some of its cords, judged in order: all are good, and the cords come to a tally; or the refusal of the first that is not.
-#[derive(Clone, Copy)]
-pub enum JudgedCords {
-    Good(Tally),
-    Bad(StepRefusal),
+impl Refusal for StepRefusal {
+    ghost number_of = { step_refusal_number };
+
+    ghost place_of = { step_refusal_place };
+
+    // Document 02's number.
+    fn number(self) -> u64 {
+        match self {
+            StepRefusal::BadController => 16,
+            StepRefusal::BadReading(_) => 17,
+        }
+    }
+
+    // The cord's place, or 0.
+    fn place(self) -> u64 {
+        match self {
+            StepRefusal::BadController => 0,
+            StepRefusal::BadReading(cord) => cord,
+        }
+    }
 }
 
 // Whether low ≤ x ≤ high, which no NaN does.
@@ -104,7 +118,7 @@ impl AcWatts {
     fn dc_change(self, k: f64, working: u32) -> DcWatts
         ensures result { result ≡ dc_change self k working }
     {
-        let count = working as f64;
+        let count = f64::from(working);
         DcWatts((self.0 * k) * count)
     }
 }
@@ -127,6 +141,7 @@ impl DcWatts {
 }
 
 // The lesser of two figures, and the first of equals. They are chosen as floats: a choice between structs goes through integer registers.
+// By hand: `LeastError` has the first of equals, which −0 and +0 are; `f64::min` gives either of those, and passes over a NaN.
 fn lesser(first: f64, second: f64) -> f64
     ensures result { result ≡ lesser_figure first second }
 {
@@ -134,6 +149,7 @@ fn lesser(first: f64, second: f64) -> f64
 }
 
 // The greater of two figures, and the second of equals: whichever of them is not the lesser.
+// By hand: `in_range` finds a NaN in the lesser or in this one, and `f64::max` passes over it.
 fn greater(first: f64, second: f64) -> f64
     ensures result { result ≡ greater_figure first second }
 {
@@ -149,6 +165,7 @@ fn in_range(first: f64, second: f64) -> bool
 }
 
 // A figure cut to a range.
+// By hand: `f64::clamp` asks that low ≤ high, and `step_by` promises its result for any controller, whatever its range.
 fn cut(x: f64, low: f64, high: f64) -> f64
     ensures result { result ≡ cut_figure x low high }
 {
@@ -173,62 +190,38 @@ impl Reading {
     }
 }
 
-// A count with one cord more, of the four that a server has.
-fn one_more(count: u32) -> u32
-    ensures result { result ≡ min (count + 1) 4 }
-{
-    if count < 4 { count + 1 } else { 4 }
-}
-
 impl Tally {
     // The tally of no cord: the error is infinite, so that any cord's is the lesser.
     fn none() -> Tally
         ensures result { result ≡ no_tally }
     {
         Tally {
-            least: AcWatts(1.0 / 0.0),
+            least: AcWatts(f64::INFINITY),
             working: 0,
         }
     }
 
-    // The tally with one cord more.
-    fn with(self, reading: Reading) -> Tally
+    // The tally with one cord more, which is good.
+    fn tallied(self, reading: Reading) -> Tally
         ensures result { result ≡ tallied self reading }
     {
         match reading {
-            Reading::Working(budget, measured) => {
-                let least = self.least;
-                Tally {
-                    least: least.lesser(budget.less(measured)),
-                    working: one_more(self.working),
-                }
-            }
+            Reading::Working(budget, measured) => Tally {
+                least: self.least.lesser(budget.less(measured)),
+                working: self.working.saturating_add(1).min(CORDS),
+            },
             Reading::Failed => self,
         }
     }
-}
 
-// The judgement of what is not good.
-fn refused(number: u64, place: u64) -> JudgedCords
-    ensures result { result ≡ Bad (refusal number place) }
-{
-    JudgedCords::Bad(StepRefusal { number, place })
-}
-
-impl JudgedCords {
-    // The judgement with one cord more, which is judged if all before it are good.
-    pub fn with(self, place: u64, reading: Reading) -> JudgedCords
-        ensures result { result ≡ judged_with self place reading }
+    // The tally with one cord more, the one at a place; or its refusal, where it is not good.
+    pub fn with(self, cord: u64, reading: Reading) -> Result<Tally, StepRefusal>
+        ensures result { result ≡ judged_with (Ok self) cord reading }
     {
-        match self {
-            JudgedCords::Good(tally) => {
-                if !reading.is_good() {
-                    return refused(BAD_READING, place);
-                }
-                JudgedCords::Good(tally.with(reading))
-            }
-            JudgedCords::Bad(_) => self,
+        if !reading.is_good() {
+            return Err(StepRefusal::BadReading(cord));
         }
+        Ok(self.tallied(reading))
     }
 }
 
@@ -237,35 +230,44 @@ impl Controller {
     //
     // It is made of small parts, so that each is compiled into this and into a pass over many controllers, which is made of them too: a
     // step that both called would be compiled apart, and its readings and what it gives would go through memory.
-    pub fn step(self, readings: [Reading; 4]) -> Stepped
+    pub fn step(self, readings: [Reading; 4]) -> Result<Controller, RefusedStep>
         ensures result { result ≡ stepped self readings }
     {
-        let none = self.judged();
-        let one = none.with(0, readings[0]);
-        let two = one.with(1, readings[1]);
-        let three = two.with(2, readings[2]);
-        let four = three.with(3, readings[3]);
-        self.step_by(four)
+        self.step_by(self.tally(readings))
+    }
+
+    // The tally of the four cords; or the refusal of the controller, or else of the first cord that is not good.
+    fn tally(self, readings: [Reading; 4]) -> Result<Tally, StepRefusal>
+        ensures result { result ≡ judged_all (judged_first self) 0 readings }
+    {
+        let none = self.judged()?;
+        let one = none.with(0, readings[0])?;
+        let two = one.with(1, readings[1])?;
+        let three = two.with(2, readings[2])?;
+        three.with(3, readings[3])
     }
 
     // The controller judged, before its cords.
-    pub fn judged(self) -> JudgedCords
+    pub fn judged(self) -> Result<Tally, StepRefusal>
         ensures result { result ≡ judged_first self }
     {
         if !self.is_good() {
-            return refused(BAD_CONTROLLER, 0);
+            return Err(StepRefusal::BadController);
         }
-        JudgedCords::Good(Tally::none())
+        Ok(Tally::none())
     }
 
     // The step, once the controller and its cords are judged. It moves whatever controller it is given: the caller hands over the
     // judgement of this one.
-    pub fn step_by(self, judged: JudgedCords) -> Stepped
+    pub fn step_by(self, judged: Result<Tally, StepRefusal>) -> Result<Controller, RefusedStep>
         ensures result { result ≡ stepped_by self judged }
     {
         match judged {
-            JudgedCords::Good(tally) => Stepped::Next(self.moved_by(tally)),
-            JudgedCords::Bad(refusal) => Stepped::Refused(refusal, self),
+            Ok(tally) => Ok(self.moved_by(tally)),
+            Err(refusal) => Err(RefusedStep {
+                refusal,
+                controller: self,
+            }),
         }
     }
 
@@ -284,57 +286,19 @@ impl Controller {
     fn is_good(self) -> bool
         ensures result { result ≡ good_controller self }
     {
-        if !is_efficiency(self.k) {
-            return false;
-        }
-        ordered(0.0, self.low.0, self.cap.0) && ordered(self.cap.0, self.high.0, MOST_WATTS)
+        is_efficiency(self.k)
+            && ordered(0.0, self.low.0, self.cap.0)
+            && ordered(self.cap.0, self.high.0, MOST_WATTS)
     }
 
     // The controller with its cap moved by the least error of so many working cords.
     fn moved(self, error: AcWatts, working: u32) -> Controller
         ensures result { result ≡ moved self error working }
     {
-        let cap = self.cap;
-        let low = self.low;
-        let high = self.high;
         let change = error.dc_change(self.k, working);
         Controller {
-            cap: cap.moved(change, low, high),
-            k: self.k,
-            low,
-            high,
-        }
-    }
-}
-
-impl Stepped {
-    // The refusal's number, or 0.
-    pub fn number(self) -> u64
-        ensures result { result ≡ step_number self }
-    {
-        match self {
-            Stepped::Next(_) => 0,
-            Stepped::Refused(refusal, _) => refusal.number,
-        }
-    }
-
-    // The refusal's place, or 0.
-    pub fn place(self) -> u64
-        ensures result { result ≡ step_place self }
-    {
-        match self {
-            Stepped::Next(_) => 0,
-            Stepped::Refused(refusal, _) => refusal.place,
-        }
-    }
-
-    // The controller after the step.
-    pub fn controller(self) -> Controller
-        ensures result { result ≡ controller_after self }
-    {
-        match self {
-            Stepped::Next(successor) => successor,
-            Stepped::Refused(_, unchanged) => unchanged,
+            cap: self.cap.moved(change, self.low, self.high),
+            ..self
         }
     }
 }

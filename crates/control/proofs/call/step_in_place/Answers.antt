@@ -1,6 +1,5 @@
 -- `step_in_place` meets its contract: the step of what the lists hold, its cap kept and its answer told.
-use native.Mathlib.Omega.{arith}
-use mathlib.Core.Path.{refl}
+use Rattle.std.proofs.Common.{refl, arith}
 use Rattle.calls.proofs.Calls.{call_short}
 use Rattle.control.proofs.Calls.{call_done}
 use Rattle.control.proofs.call.step_in_place.Goals as goal
@@ -12,6 +11,6 @@ pub returns : goal.returns
 returns c =
     record {
       called =
-          call_done _ _ (omega (arith, c.if-answer-lt-ANSWER_BYTES.false)) c.of-before.ensures.result c.readings.ensures.result c.step-stepped.ensures.result
-          c.keep_cap.ensures.controller c.number.ensures.result c.place.ensures.result c.store_answer.ensures.stored;
+          call_done _ _ c.if-answer-lt-ANSWER_BYTES.false c.of-before.ensures.result c.readings.ensures.result c.step-stepped.ensures.result
+          c.keep_cap.ensures.controller (rw c.keep_cap.ensures.answer at c.tell.ensures.told);
     }

@@ -240,11 +240,12 @@ impl Controller {
     fn tally(self, readings: [Reading; 4]) -> Result<Tally, StepRefusal>
         ensures result { result ≡ judged_all (judged_first self) 0 readings }
     {
+        let [first, second, third, fourth] = readings;
         let none = self.judged()?;
-        let one = none.with(0, readings[0])?;
-        let two = one.with(1, readings[1])?;
-        let three = two.with(2, readings[2])?;
-        three.with(3, readings[3])
+        let one = none.with(0, first)?;
+        let two = one.with(1, second)?;
+        let three = two.with(2, third)?;
+        three.with(3, fourth)
     }
 
     // The controller judged, before its cords.

@@ -6,14 +6,13 @@ use mathlib.Core.Logic.{◌⊎◌, inl, inr}
 use Prim.Native.Nat.{ℕ, zero, suc, ◌+◌, ◌*◌, ◌<◌, ◌≤◌}
 use native.Mathlib.Nat.{eq-or-lt_of_le, le_of_suc-le-suc, ne_of_lt}
 use native.Mathlib.Omega.{arith}
+use Rattle.std.proofs.Common.{Ok, Err}
 use lib.ListN.{length, get_or, set}
 use lib.Seq.{get_or-set_same, get_or-set_other}
 use lib.Ieee.{Float, nan}
 use Rattle.control.specs.declared.Reading.{Reading}
 use Rattle.control.specs.declared.Controller.{Controller}
-use Rattle.control.specs.declared.Stepped.{Stepped}
-use Rattle.control.specs.declared.Stepped.TheVariants.{Next, Refused}
-use Rattle.control.specs.Step.{stepped, step_number, controller_after, errors}
+use Rattle.control.specs.Step.{Stepped, stepped, step_number, controller_after, errors}
 use Rattle.control.specs.Call.{controller_of, controller_at, readings_at, figures_after}
 use Rattle.control.proofs.Outcomes.{Outcome, bad_controller, bad_reading, all_sound, outcome}
 use Rattle.control.proofs.Accepted.{successor-range}
@@ -44,8 +43,8 @@ cap_after : (c : Controller) (readings : List Reading) (figures : List Float) (a
 cap_after c readings figures at h was = go (stepped c readings) refl
   where
     go : (step : Stepped) → stepped c readings ≡ step → get_or (figures_after step figures at) at nan ≡ (controller_after step).cap.0
-    go (Next next) e = get_or-set_same figures at next.cap.0 nan h
-    go (Refused why after) e = was ∙ ap (λ (x : Controller). x.cap.0) (sym (refused_unchanged c readings why after e))
+    go (Ok next) e = get_or-set_same figures at next.cap.0 nan h
+    go (Err turned) e = was ∙ ap (λ (x : Controller). x.cap.0) (sym (refused_unchanged c readings turned.refusal turned.controller e))
 
 -- ---- Each controller
 

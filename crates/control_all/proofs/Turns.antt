@@ -1,22 +1,19 @@
 -- Laws of the loop over the controllers: what is known before each, one turn, and the end.
 use mathlib.Core.Path.{◌≡◌, refl, ap, ◌∙◌}
-use mathlib.Core.Bool.{cond}
+use mathlib.Core.Bool.{Bool, true, false, cond}
 use mathlib.Core.List.{List, [], ◌∷◌, ◌++◌}
-use Prim.Native.Nat.{ℕ, zero, suc, ◌+◌, ◌*◌, ◌%◌, ◌<◌, ◌≤◌}
-use native.Mathlib.Nat.{mod-eq_of_lt, ne_of_gt}
+use Prim.Native.Nat.{ℕ, zero, suc, ◌+◌, ◌*◌, ◌<◌, ◌≤◌}
+use native.Mathlib.Nat.{ne_of_gt}
 use native.Mathlib.Numerals.{add-one}
 use native.Mathlib.Omega.{arith}
+use Rattle.std.proofs.Common.{Ok, Err}
+use mir.Val.{bool_byte}
 use lib.Dec.{eqb}
 use lib.ListN.{length, get_or, set, take, length-set}
-use lib.Seq.{take-suc, take_all, get_or-set_same, get_or-set_other}
+use lib.Seq.{take-suc, get_or-set_same, get_or-set_other}
 use lib.Ieee.{Float, nan}
-use Rattle.control.specs.declared.Reading.{Reading}
-use Rattle.control.specs.declared.Controller.{Controller}
-use Rattle.control.specs.declared.Stepped.{Stepped}
-use Rattle.control.specs.declared.Stepped.TheVariants.{Next, Refused}
-use Rattle.control.specs.Step.{step_number, stepped}
-use Rattle.control.specs.Call.{controller_at, readings_at, step_at, figures_after}
-use Rattle.control.proofs.Outcomes.{Outcome, bad_controller, bad_reading, all_sound, outcome}
+use Rattle.control.specs.Step.{Stepped, step_number}
+use Rattle.control.specs.Call.{step_at, figures_after}
 use Rattle.control_all.specs.Pass.{own_step, stepped_to, numbers_to, zeros}
 use Rattle.control_all.specs.Fitting.{Fitting}
 
@@ -24,33 +21,23 @@ use Rattle.control_all.specs.Fitting.{Fitting}
 
 -- What a step leaves is as long as before, and differs at its place alone.
 pub length-figures_after : (step : Stepped) (figures : List Float) (at : ℕ) → length (figures_after step figures at) ≡ length figures
-length-figures_after (Next next) figures at = length-set figures at next.cap.0
-length-figures_after (Refused why unchanged) figures at = refl
+length-figures_after (Ok next) figures at = length-set figures at next.cap.0
+length-figures_after (Err turned) figures at = refl
 
 pub figures_after_other : (step : Stepped) (figures : List Float) (at i : ℕ) → (i ≡ at → ⊥) → get_or (figures_after step figures at) i nan ≡ get_or figures i nan
-figures_after_other (Next next) figures at i h = get_or-set_other figures at i next.cap.0 nan h
-figures_after_other (Refused why unchanged) figures at i h = refl
-
--- A step's number fits a byte.
-number_small : (step : Stepped) {n : ℕ} → step_number step ≡ n → n ≤ 17 → step_number step % 256 ≡ step_number step
-number_small step {n} e h = mod-eq_of_lt (omega (arith, e))
-
-pub number-byte : (controllers : List Float) (working : List ℕ) (budgets measured : List Float) (at : ℕ)
-    → step_number (step_at controllers working budgets measured at) % 256 ≡ step_number (step_at controllers working budgets measured at)
-number-byte controllers working budgets measured at = go (outcome c readings)
-  where
-    c : Controller
-    c = controller_at controllers at
-
-    readings : List Reading
-    readings = readings_at working budgets measured at
-
-    go : Outcome c readings → step_number (stepped c readings) % 256 ≡ step_number (stepped c readings)
-    go (bad_controller unsound e) = number_small (stepped c readings) (ap step_number e) (omega arith)
-    go (bad_reading sound i found e) = number_small (stepped c readings) (ap step_number e) (omega arith)
-    go (all_sound sound all e) = number_small (stepped c readings) (ap step_number e) (omega arith)
+figures_after_other (Ok next) figures at i h = get_or-set_other figures at i next.cap.0 nan h
+figures_after_other (Err turned) figures at i h = refl
 
 -- ---- Zeros counted
+
+-- What a test adds as a number.
+byte_is : (b : Bool) → bool_byte b ≡ cond b 1 0
+byte_is true = refl
+byte_is false = refl
+
+byte_most : (b : Bool) → bool_byte b ≤ 1
+byte_most true = omega arith
+byte_most false = omega arith
 
 zeros-append : (l : List ℕ) (x : ℕ) → zeros (l ++ (x ∷ [])) ≡ zeros l + cond (eqb x 0) 1 0
 unfolding zeros
@@ -117,32 +104,23 @@ module _ (controllers : List Float) (working : List ℕ) (budgets measured : Lis
 
     -- A turn: its cap is kept, and its number told and counted.
     pub before_next : {step : Stepped} {after : List Float} {number one : ℕ} → i < length results
-        → step ≡ step_at controllers' working budgets measured (4 * i) → after ≡ figures_after step controllers' (4 * i) → number ≡ step_number step % 256
-        → one ≡ cond (eqb number 0) 1 0 → one ≤ 1
+        → step ≡ step_at controllers' working budgets measured (4 * i) → after ≡ figures_after step controllers' (4 * i) → number ≡ step_number step
+        → one ≡ bool_byte (eqb number 0)
         → Before after (set results' i number) (count + one) (i + 1)
     unfolding stepped_to numbers_to
-    before_next {step} {after} {number} {one} h s a n o most =
+    before_next {step} {after} {number} {one} h s a n o =
         let own = own-step s in
         let told : number ≡ step_number (own_step controllers working budgets measured i) =
-        n ∙ ap (λ (x : Stepped). step_number x % 256) own ∙ number-byte controllers working budgets measured (4 * i) in
+        n ∙ ap step_number own in
+        let most : one ≤ 1 = rw o (byte_most (eqb number 0)) in
         let here : i < length results' = omega (arith, before.results_kept) in
         record {
           fit = before.fit;
           within = omega arith;
           steps = rw add-one (a ∙ rw (own, before.steps) refl);
           tells = rw add-one (rw (told, before.tells) refl);
-          counts = rw (zeros-set results' i number here, before.counts, o) refl;
+          counts = rw (zeros-set results' i number here, before.counts, o, byte_is (eqb number 0)) refl;
           few = omega (arith, before.few);
           controllers_kept = ap length a ∙ length-figures_after step controllers' (4 * i) ∙ before.controllers_kept;
           results_kept = length-set results' i number ∙ before.results_kept;
         }
-
-    -- After the last controller all are stepped, and all zeros are counted.
-    pub before_last : length results ≤ i
-        → (controllers' ≡ stepped_to controllers working budgets measured (length results))
-        × (results' ≡ numbers_to controllers working budgets measured results (length results))
-        × (count ≡ zeros results')
-    before_last h =
-        let end : i ≡ length results = omega (arith, before.within) in
-        let all : take i results' ≡ results' = take_all i results' (omega (arith, before.results_kept)) in
-        (rw (← end) before.steps, rw (← end) before.tells, before.counts ∙ ap zeros all)

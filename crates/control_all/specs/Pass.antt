@@ -2,13 +2,11 @@
 --
 -- A list of controllers has four figures for each, in a row: cap, k, low and high. One to three figures over at its end belong to none.
 -- The marks, the budgets and the measured watts have four entries for each controller, one a cord.
-use Rattle.std.specs.Prelude.{Bool, cond, not, ◌&&◌, List, [], ◌∷◌, ℕ, zero, suc, ◌+◌, ◌*◌, ◌/◌, eqb, leb, length, set, Float}
+use Rattle.std.specs.Prelude.{Bool, cond, not, ◌&&◌, List, [], ◌∷◌, ℕ, zero, suc, ◌+◌, ◌*◌, ◌/◌, eqb, leb, length, set, Float, Result, Ok, Err}
 use Rattle.outcomes.specs.Outcome.{Outcome, accepted, refused, Reason, unless}
-use Rattle.control.specs.declared.Stepped.{Stepped}
-use Rattle.control.specs.Step.{step_number}
+use Rattle.control.specs.Step.{Stepped, step_number}
 use Rattle.control.specs.Call.{step_at, figures_after}
-use Rattle.control_all.specs.declared.PassAnswer.{PassAnswer}
-use Rattle.control_all.specs.declared.PassAnswer.TheVariants.{Accepted, Refused}
+use Rattle.control_all.specs.declared.PassRefusal.{PassRefusal}
 
 -- ---- Lists that fit
 
@@ -57,13 +55,13 @@ pub record Pass : Type 0 where
 
 -- What a pass comes to. Refused, it gives the number of controllers.
 abbrev pub PassOutcome : Type 0
-PassOutcome = Outcome Pass ℕ
+PassOutcome = Outcome Pass PassRefusal
 
 -- The lists do not fit (18), at the number of controllers.
-abbrev pub unfit : List Float → List ℕ → List Float → List Float → List ℕ → Reason ℕ
+abbrev pub unfit : List Float → List ℕ → List Float → List Float → List ℕ → Reason PassRefusal
 unfit controllers working budgets measured results = record {
   holds = not (fitting (controller_count controllers) (length working) (length budgets) (length measured) (length results));
-  refusal = controller_count controllers;
+  refusal = record { controllers = controller_count controllers };
 }
 
 -- A pass: refused, before anything is stepped, where the lists do not fit.
@@ -77,17 +75,24 @@ passed controllers working budgets measured results =
     })
 
 -- The answer: how many results are 0, or the refusal's place.
-abbrev pub answer_of : PassOutcome → PassAnswer
-answer_of (accepted pass) = Accepted (zeros pass.results)
-answer_of (refused count) = Refused count
+abbrev pub answer_of : PassOutcome → Result ℕ PassRefusal
+answer_of (accepted pass) = Ok (zeros pass.results)
+answer_of (refused refusal) = Err refusal
 
 -- ---- Numbers and figures
 
--- An answer's number, 0 if accepted, and its figure: how many controllers have 0, or the refusal's place.
-abbrev pub pass_number : PassAnswer → ℕ
-pass_number (Accepted count) = 0
-pass_number (Refused place) = 18
+-- A refusal's number, and its place: the number of controllers.
+abbrev pub pass_refusal_number : PassRefusal → ℕ
+pass_refusal_number refusal = 18
 
-abbrev pub pass_figure : PassAnswer → ℕ
-pass_figure (Accepted count) = count
-pass_figure (Refused place) = place
+abbrev pub pass_refusal_place : PassRefusal → ℕ
+pass_refusal_place refusal = refusal.controllers
+
+-- An answer's number, 0 if accepted, and its figure: how many controllers have 0, or the refusal's place.
+abbrev pub pass_number : Result ℕ PassRefusal → ℕ
+pass_number (Ok count) = 0
+pass_number (Err refusal) = pass_refusal_number refusal
+
+abbrev pub pass_figure : Result ℕ PassRefusal → ℕ
+pass_figure (Ok count) = count
+pass_figure (Err refusal) = pass_refusal_place refusal

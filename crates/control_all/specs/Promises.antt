@@ -2,8 +2,7 @@
 -- proofs/Promises.antt proves each: `EachAsSingle` as `each_as_single`, and so on.
 use Rattle.std.specs.Prelude.{◌≡◌, List, ◌↔◌, ℕ, ◌*◌, ◌<◌, ◌≤◌, length, get_or, Float}
 use Rattle.std.specs.Float.{nan}
-use Rattle.control.specs.declared.Stepped.{Stepped}
-use Rattle.control.specs.Step.{step_number, controller_after}
+use Rattle.control.specs.Step.{Stepped, step_number, controller_after}
 use Rattle.control.specs.Call.{controller_at}
 use Rattle.outcomes.specs.Outcome.{accepted}
 use Rattle.control_all.specs.Pass.{most_controllers, controller_count, own_step, passed, answer_of, pass_number, pass_figure}

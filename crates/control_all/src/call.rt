@@ -20,6 +20,6 @@ pub fn step_all_in_place(
         return 0;
     }
     let told = crate::step_all(controllers, working, budgets, measured, results);
-    calls::store_answer(told.number(), told.figure() as u64, answer);
+    calls::tell(told, answer);
     1
 }

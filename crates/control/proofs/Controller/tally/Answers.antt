@@ -44,14 +44,3 @@ returns-in_err-three c =
       told.1,
       told.2,
     ) (record { result = refl })
-
-pub returns : goal.returns
-returns c =
-    let four : length c.args.readings ≡ 4 = search rules in
-    rw (
-      judged_four _ c.args.readings past four,
-      ← c.in_ok-none.ensures.result,
-      ← c.in_ok-one.ensures.result,
-      ← c.in_ok-two.ensures.result,
-      ← c.in_ok-three.ensures.result,
-    ) (record { result = c.with-4.ensures.result })

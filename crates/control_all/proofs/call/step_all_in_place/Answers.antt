@@ -11,5 +11,5 @@ returns c =
     record {
       called =
           call_done _ _ _ _ (omega (arith, c.if-answer-lt-ANSWER_BYTES.false)) c.step_all-told.ensures.answer c.step_all-told.ensures.controllers c.step_all-told.ensures.results
-          c.number.ensures.result c.figure.ensures.result c.store_answer.ensures.stored;
+          c.tell.ensures.told;
     }

@@ -8,7 +8,6 @@ ghost use Rattle.figures.specs.Places.{Zeros};
 use crate::dealing::{deal_cords, deal_nodes};
 use crate::levels::{ACTIVE_COUNT, FROM, TO};
 use crate::metrics::{add_cords, request};
-use figures::index;
 
 // The length of the lists with a rank's figure of each node: a little more than the most nodes. 512 figures of 64 bits fill a page, so
 // that such lists would start at the same place of their pages. The processor, which compares that place alone, would let a load from
@@ -47,26 +46,17 @@ pub fn deal(
     let mut before = [0u64; FIGURES];
     let mut dealt = [0u32; FIGURES];
     let n = parents.len();
-    let mut level: usize = 16;
-    while 0 < level {
-        level -= 1;
-        let from = index(levels[level][FROM]);
-        let to = index(levels[level][TO]);
+    for level in (0..16).rev() {
+        let from = usize::from(levels[level][FROM]);
+        let to = usize::from(levels[level][TO]);
         if from < to {
-            let count = index(levels[level][ACTIVE_COUNT]);
-            add_cords(
-                n,
-                &order[from..to],
-                nodes,
-                starts,
-                wants,
-                &mut bases,
-                &mut wholes,
-            );
+            let listed = &order[from..to];
+            let count = usize::from(levels[level][ACTIVE_COUNT]);
+            let active = &actives[level][..count];
+            add_cords(n, listed, nodes, starts, wants, &mut bases, &mut wholes);
             request(
                 parents,
-                &actives[level],
-                count,
+                active,
                 level,
                 left,
                 &mut wholes,
@@ -77,15 +67,14 @@ pub fn deal(
             );
             deal_nodes(
                 parents,
-                &actives[level],
-                count,
+                active,
                 &wholes,
                 &mut amounts,
                 &mut before,
                 &mut dealt,
             );
             deal_cords(
-                &order[from..to],
+                listed,
                 nodes,
                 starts,
                 wants,

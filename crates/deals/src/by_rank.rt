@@ -16,10 +16,10 @@ pub const FIGURES: usize = 520;
 
 // The grants of a deal, rank by rank from the highest, over each rank's cords and active nodes, which `levels` lists. `left` comes with
 // what each limit has over all starts; before each rank it has what the Requests dealt and the starts to come leave, and in the end what
-// the Requests leave. `cuts` come with 0 and leave with the highest rank at which each node is cut, 0 if there is none. The Requests
-// stand in `requests`, a row a node and a column a rank; only those of active nodes are filled. `bases` (the starts beneath) and `wholes`
-// (the children's weights) have a rank's figure of each node; `amounts` (its weight, and then what it has to give), `before` (weights
-// served) and `dealt` that of each active one.
+// the Requests leave. `cuts` come with 0 and leave with the highest rank at which each node is cut, 0 if there is none: that is below every
+// rank, so that the greatest mark stands. The Requests stand in `requests`, a row a node and a column a rank; only those of active nodes
+// are filled. `bases` (the starts beneath) and `wholes` (the children's weights) have a rank's figure of each node; `amounts` (its weight,
+// and then what it has to give), `before` (weights served) and `dealt` that of each active one.
 pub fn deal(
     parents: &[u16],
     levels: &[[u16; 4]; 16],

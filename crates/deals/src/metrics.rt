@@ -40,6 +40,7 @@ pub fn add_cords(
 }
 
 // The weights alone.
+// By hand: `add_cords` would do, with a list for the starts that nobody reads: one sum a cord more in headroom, which is slower.
 pub fn sum_weights(
     count: usize,
     listed: &[u16],
@@ -75,6 +76,8 @@ fn take(left: &mut [u32], n: usize, whole: u64) -> u32
 }
 
 // From the last active node to the first: a node's weight is taken, and added to its parent's sum.
+// By hand: `request` weighs too, but fills rows of 32 KiB, marks and sums of starts, which headroom has no use for; and with `weigh` as a
+// pass of its own before it, a rank would take one pass over the nodes more.
 pub fn weigh(
     parents: &[u16],
     active: &[u16],

@@ -37,6 +37,7 @@ fn next_row(above: [u16; 16], cut: u16, number: u16) -> [u16; 16]
 
 // The row of each node, by its number, from the first node to the last: a parent's stands before its child's. Row 0, which stands for a
 // root's parent, names none; all rows come as zeros.
+// By hand: 0 for none in the rows, as in the held list that C is given; a list of `Option<u16>` would take twice the 16 KiB of stack.
 fn fill_rows(parents: &[u16], cuts: &[u16], rows: &mut [[u16; 16]; 513])
     requires nodes { CutNodes parents.now cuts.now × ZeroRows (suc most_nodes) highest_rank rows.old }
     ensures holders { HolderRows parents.now cuts.now rows.new }

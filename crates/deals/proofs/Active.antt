@@ -4,13 +4,12 @@ use mathlib.Core.Path.{◌≡◌, refl, sym, ap, ◌∙◌, subst}
 use mathlib.Core.Bool.{Bool, true, false}
 use mathlib.Core.List.{List, []}
 use Prim.Native.Nat.{ℕ, suc, ◌+◌, ◌-◌, ◌/◌, ◌%◌, ◌^◌, ◌≤◌, ◌<◌, max}
-use native.Mathlib.Nat.{le_refl, div_self, mod-lt}
+use native.Mathlib.Nat.{le_refl, mod-lt}
 use native.Mathlib.Omega.{arith}
 use lib.Bits.{bit_or, or_shr, or_step}
-use lib.Pow.{pow_pos}
 use lib.Dec.{eqb, ltb}
-use lib.ListN.{length, get_or, set, length-set}
-use lib.Seq.{get_or-set_same, get_or-set_other}
+use lib.ListN.{length, get_or, set, take, length-set}
+use lib.Seq.{get_or-set_same, get_or-set_other, get_or-take, length-take-le}
 use borrow.Author.Count.{below_more}
 use borrow.Author.Tests.{eqb-true, eqb-false, ltb-true, ltb-false}
 use Rattle.rooms.specs.Table.{most_nodes, highest_rank}
@@ -21,9 +20,6 @@ use Rattle.figures.proofs.Cells.{stored, cell-here, cell_elsewhere, cell_others,
 use Rattle.rooms.specs.Trees.{ParentsFirst}
 
 -- ---- Marks
-
-pub marked_one : (level : ℕ) → Marked (2 ^ level) level
-marked_one level = ap (λ (x : ℕ). x % 2) (div_self (pow_pos level))
 
 module _ (a b level : ℕ) where
   or_bit : bit_or a b / 2 ^ level % 2 ≡ max (a / 2 ^ level % 2) (b / 2 ^ level % 2)
@@ -67,9 +63,6 @@ module _ (marks : List ℕ) (node more : ℕ) (some : node ≡ 0 → ⊥) (there
         rw (q, added_here) (marked_right (at marks (node - 1)) more level h);
     later = λ n l. added_other n (λ e. omega arith);
   }
-
-pub none_added : (marks : List ℕ) (node more : ℕ) → node ≡ 0 → MarksAdded node more marks marks
-none_added marks node more none = record { kept = λ n level h. h; added = λ n level e h. absurd (omega arith); later = λ n l. refl }
 
 -- Before the turn of the cord at place c: the nodes of the cords before it are marked with their levels.
 pub record MarkingCords (parents nodes levels : List ℕ) (c : ℕ) (marks : List ℕ) : Type 0 where
@@ -242,64 +235,48 @@ module _ {parents nodes levels marks : List ℕ} (size : length marks ≡ length
 
 -- ---- The active nodes of all levels
 
--- Before the turns of the levels below `above`; `rows₀` are the levels' rows before all turns.
-pub record Levelling (marks : List ℕ) (rows₀ : List (List ℕ)) (above : ℕ) (rows actives : List (List ℕ)) : Type 0 where
-  pub within : above ≤ highest_rank
+-- Before the turn of a level: those below it are listed; `rows₀` are the levels' rows before all turns.
+pub record Levelling (marks : List ℕ) (rows₀ : List (List ℕ)) (level : ℕ) (rows actives : List (List ℕ)) : Type 0 where
+  pub within : level ≤ highest_rank
   pub rows_full : LevelRows rows
   pub full : FullLists actives
   pub bounds : (j : ℕ) → (cell rows j from_column ≡ cell rows₀ j from_column) × (cell rows j to_column ≡ cell rows₀ j to_column)
-  pub listed : (j : ℕ) → above ≤ j → j < highest_rank → cell rows₀ j from_column < cell rows₀ j to_column → Listed marks j (get_or actives j []) (cell rows j active_count_column)
-  pub none : (j : ℕ) → above ≤ j → j < highest_rank → cell rows₀ j to_column ≤ cell rows₀ j from_column → cell rows j active_count_column ≡ 0
+  pub listed : (j : ℕ) → j < level → cell rows₀ j from_column < cell rows₀ j to_column → Listed marks j (get_or actives j []) (cell rows j active_count_column)
+  pub none : (j : ℕ) → j < level → cell rows₀ j to_column ≤ cell rows₀ j from_column → cell rows j active_count_column ≡ 0
 
-pub levelling_start : {marks : List ℕ} {rows actives : List (List ℕ)} → LevelRows rows → FullLists actives → Levelling marks rows highest_rank rows actives
+pub levelling_start : {marks : List ℕ} {rows actives : List (List ℕ)} → LevelRows rows → FullLists actives → Levelling marks rows 0 rows actives
 levelling_start rows_full full = record {
-  within = le_refl highest_rank;
+  within = omega arith;
   rows_full = rows_full;
   full = full;
   bounds = λ j. (refl, refl);
-  listed = λ j l h. absurd (omega arith);
-  none = λ j l h. absurd (omega arith);
+  listed = λ j l. absurd (omega arith);
+  none = λ j l. absurd (omega arith);
 }
 
-module _ {marks : List ℕ} {rows₀ : List (List ℕ)} {above : ℕ} {rows actives : List (List ℕ)} (inv : Levelling marks rows₀ above rows actives) where
-  pub levelling_end : above ≤ 0 → LevelsListed marks rows₀ actives rows
+module _ {marks : List ℕ} {rows₀ : List (List ℕ)} {level : ℕ} {rows actives : List (List ℕ)} (inv : Levelling marks rows₀ level rows actives) where
+  pub levelling_end : highest_rank ≤ level → LevelsListed marks rows₀ actives rows
   levelling_end h = record {
     rows_full = inv.rows_full;
     full = inv.full;
     bounds = inv.bounds;
-    listed = λ j l. inv.listed j (omega arith) l;
-    none = λ j l. inv.none j (omega arith) l;
+    listed = λ j l. inv.listed j (omega arith);
+    none = λ j l. inv.none j (omega arith);
   }
 
-  module _ (some : 0 < above) where
-    abbrev level : ℕ
-    level = above - 1
+  module _ (more : level < highest_rank) where
+    level_there : level < length rows
+    level_there = omega (arith, inv.rows_full.0)
 
-    pub level_few : level < highest_rank
-    level_few = omega (arith, inv.within)
-
-    pub level_there : level < length rows
-    level_there = omega (arith, level_few, inv.rows_full.0)
-
-    pub level_width : length (get_or rows level []) ≡ 4
-    level_width = inv.rows_full.1 level level_few
-
-    -- What holds of the levels passed and of this one.
-    passed : (holds : ℕ → Type 0) → ((j : ℕ) → above ≤ j → j < highest_rank → holds j) → holds level → (j : ℕ) → level ≤ j → j < highest_rank → holds j
-    passed holds before here j l h = go (eqb j level) refl
-      where
-        go : (t : Bool) → eqb j level ≡ t → holds j
-        go true e = rw (eqb-true j level e) here
-        go false e =
-            let d : j ≡ level → ⊥ = eqb-false j level e in
-            before j (omega arith) h
+    level_width : length (get_or rows level []) ≡ 4
+    level_width = inv.rows_full.1 level more
 
     -- A level's count is stored: the counts of other levels stand, and so do all bounds.
     module _ (v : ℕ) where
       counted : cell (stored rows level active_count_column v) level active_count_column ≡ v
       counted = cell-here rows level active_count_column v level_there (omega (arith, level_width))
 
-      uncounted : (j : ℕ) → above ≤ j → cell (stored rows level active_count_column v) j active_count_column ≡ cell rows j active_count_column
+      uncounted : (j : ℕ) → j < level → cell (stored rows level active_count_column v) j active_count_column ≡ cell rows j active_count_column
       uncounted j l = cell_elsewhere rows level active_count_column v level_there j active_count_column (λ q. omega arith)
 
       same_bounds : (j : ℕ) → (cell (stored rows level active_count_column v) j from_column ≡ cell rows₀ j from_column) × (cell (stored rows level active_count_column v) j to_column ≡ cell rows₀ j to_column)
@@ -309,41 +286,41 @@ module _ {marks : List ℕ} {rows₀ : List (List ℕ)} {above : ℕ} {rows acti
       )
 
     -- A level that no cord has.
-    pub levelling_skip : cell rows level to_column ≤ cell rows level from_column → Levelling marks rows₀ level (stored rows level active_count_column 0) actives
+    pub levelling_skip : cell rows level to_column ≤ cell rows level from_column → Levelling marks rows₀ (level + 1) (stored rows level active_count_column 0) actives
     levelling_skip none = record {
-      within = omega (arith, inv.within);
+      within = omega arith;
       rows_full = stored_full rows level active_count_column 0 level_there inv.rows_full;
       full = inv.full;
       bounds = same_bounds 0;
-      listed = passed (λ j. cell rows₀ j from_column < cell rows₀ j to_column → Listed marks j (get_or actives j []) (cell (stored rows level active_count_column 0) j active_count_column))
-          (λ j l h has. subst (Listed marks j (get_or actives j [])) (sym (uncounted 0 j l)) (inv.listed j l h has))
+      listed = below_more (λ j. cell rows₀ j from_column < cell rows₀ j to_column → Listed marks j (get_or actives j []) (cell (stored rows level active_count_column 0) j active_count_column)) level
+          (λ j l has. subst (Listed marks j (get_or actives j [])) (sym (uncounted 0 j l)) (inv.listed j l has))
           (λ has. absurd (omega (arith, inv.bounds level)));
-      none = passed (λ j. cell rows₀ j to_column ≤ cell rows₀ j from_column → cell (stored rows level active_count_column 0) j active_count_column ≡ 0)
-          (λ j l h has. uncounted 0 j l ∙ inv.none j l h has) (λ has. counted 0);
+      none = below_more (λ j. cell rows₀ j to_column ≤ cell rows₀ j from_column → cell (stored rows level active_count_column 0) j active_count_column ≡ 0) level
+          (λ j l has. uncounted 0 j l ∙ inv.none j l has) (λ has. counted 0);
     }
 
     pub levelling_turn : cell rows level from_column < cell rows level to_column → (list : List ℕ) {v count : ℕ} → v ≡ count → length list ≡ length (get_or actives level [])
-        → Listed marks level list count → Levelling marks rows₀ level (stored rows level active_count_column v) (set actives level list)
+        → Listed marks level list count → Levelling marks rows₀ (level + 1) (stored rows level active_count_column v) (set actives level list)
     levelling_turn some_cord list {v} {count} e size listed = record {
-      within = omega (arith, inv.within);
+      within = omega arith;
       rows_full = stored_full rows level active_count_column v level_there inv.rows_full;
       full = (
         length-set actives level list ∙ inv.full.0,
         λ j h. set-length (eqb j level) j refl h,
       );
       bounds = same_bounds v;
-      listed = passed (λ j. cell rows₀ j from_column < cell rows₀ j to_column → Listed marks j (get_or (set actives level list) j []) (cell (stored rows level active_count_column v) j active_count_column))
-          (λ j l h has. rw (get_or-set_other actives level j list [] (λ q. omega arith)) (subst (Listed marks j (get_or actives j [])) (sym (uncounted v j l)) (inv.listed j l h has)))
+      listed = below_more (λ j. cell rows₀ j from_column < cell rows₀ j to_column → Listed marks j (get_or (set actives level list) j []) (cell (stored rows level active_count_column v) j active_count_column)) level
+          (λ j l has. rw (get_or-set_other actives level j list [] (λ q. omega arith)) (subst (Listed marks j (get_or actives j [])) (sym (uncounted v j l)) (inv.listed j l has)))
           (λ has. rw row (subst (Listed marks level list) (sym (counted v ∙ e)) listed));
-      none = passed (λ j. cell rows₀ j to_column ≤ cell rows₀ j from_column → cell (stored rows level active_count_column v) j active_count_column ≡ 0)
-          (λ j l h has. uncounted v j l ∙ inv.none j l h has) (λ has. absurd (omega (arith, inv.bounds level)));
+      none = below_more (λ j. cell rows₀ j to_column ≤ cell rows₀ j from_column → cell (stored rows level active_count_column v) j active_count_column ≡ 0) level
+          (λ j l has. uncounted v j l ∙ inv.none j l has) (λ has. absurd (omega (arith, inv.bounds level)));
     }
       where
         row : get_or (set actives level list) level [] ≡ list
-        row = get_or-set_same actives level list [] (omega (arith, inv.full.0, inv.within))
+        row = get_or-set_same actives level list [] (omega (arith, inv.full.0))
 
         set-length : (t : Bool) (j : ℕ) → eqb j level ≡ t → j < highest_rank → length (get_or (set actives level list) j []) ≡ most_nodes
-        set-length true j q h = rw (eqb-true j level q, row) (size ∙ inv.full.1 level level_few)
+        set-length true j q h = rw (eqb-true j level q, row) (size ∙ inv.full.1 level more)
         set-length false j q h = rw (get_or-set_other actives level j list [] (eqb-false j level q)) (inv.full.1 j h)
 
 -- The marked nodes of a level are its active nodes.
@@ -424,3 +401,28 @@ between {active} {count} {i} a b h l u k r e = go (ltb k i) refl
     go : (t : Bool) → ltb k i ≡ t → ⊥
     go true t = absurd (omega (arith, a.below k (ltb-true k i t)))
     go false t = absurd (omega (arith, b.from k (ltb-false k i t) r))
+
+-- ---- The active nodes as the front of their list
+
+-- Of a list whose first `count` entries are lent, these are the entries.
+pub absent_front : (list : List ℕ) {count n : ℕ} → count ≤ length list → Absent list count n → Absent (take count list) (length (take count list)) n
+absent_front list {count} few none i h e =
+    let l : i < count = omega (arith, length-take-le count list few) in
+    none i l (sym (get_or-take count list i 0 l) ∙ e)
+
+pub front_absent : (list : List ℕ) {count n : ℕ} → count ≤ length list → Absent (take count list) (length (take count list)) n → Absent list count n
+front_absent list {count} few none i h e = none i (omega (arith, length-take-le count list few)) (get_or-take count list i 0 h ∙ e)
+
+pub nodes_front : {parents list : List ℕ} {count : ℕ} → ActiveNodes parents list count → ActiveNodes parents (take count list) (length (take count list))
+nodes_front {parents} {list} {count} nodes =
+    let size : length (take count list) ≡ count = length-take-le count list nodes.few in
+    record {
+      few = le_refl (length (take count list));
+      within = λ i h. omega (arith, size, get_or-take count list i 0 (omega arith), nodes.within i (omega arith));
+      rises = λ i k h l. omega (arith, size, get_or-take count list i 0 (omega arith), get_or-take count list k 0 (omega arith), nodes.rises i k h (omega arith));
+      closed = λ m n l e none. absent_front list nodes.few (nodes.closed m n l e (front_absent list nodes.few none));
+    }
+
+pub cords_front : (nodes levels list : List ℕ) {level count : ℕ} → count ≤ length list → CordsActive nodes levels level list count
+    → CordsActive nodes levels level (take count list) (length (take count list))
+cords_front nodes levels list few active c n l ec en none = active c n l ec en (front_absent list few none)

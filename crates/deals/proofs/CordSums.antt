@@ -6,7 +6,8 @@ use Prim.Native.Nat.{ℕ, suc, ◌+◌, ◌-◌, ◌*◌, ◌^◌, ◌≤◌, �
 use native.Mathlib.Numerals.{add-one}
 use native.Mathlib.Omega.{arith}
 use lib.Dec.{eqb}
-use lib.ListN.{length}
+use lib.ListN.{length, take, drop, replicate, get_or-append}
+use lib.Seq.{length-take-le}
 use Rattle.figures.specs.Sums.{on, sum}
 use Rattle.rooms.specs.Table.{most_watts}
 use Rattle.figures.specs.Credits.{credited}
@@ -14,7 +15,9 @@ use Rattle.figures.proofs.Sums.{sum_suc, sum_none, sum_le}
 use Rattle.figures.proofs.Credits.{credited-at, credited-length}
 use Rattle.figures.specs.Figures.{at}
 use Rattle.figures.proofs.Lists.{sum_most}
-use Rattle.deals.specs.Passes.{LevelCords, listed_before, over_listed, cord_weight}
+use Rattle.figures.proofs.Filled.{zeros-at}
+use Rattle.figures.proofs.Fronts.{equal_length, rejoined, lent_length}
+use Rattle.deals.specs.Passes.{LevelCords, listed_before, cord_weight}
 
 -- ---- The cord of an entry, by its place as the code has it
 
@@ -32,6 +35,20 @@ module _ {count : ℕ} {listed nodes starts wants : List ℕ} (cords : LevelCord
   )
 
 -- ---- One figure of the cords, summed on their nodes
+
+-- A list whose first entries are filled with zeros.
+pub record Cleared (count : ℕ) (list list' : List ℕ) : Type 0 where
+  pub size : length list' ≡ length list
+  pub zeros : (n : ℕ) → n < count → at list' n ≡ 0
+
+pub fill_zeros : {count : ℕ} {front : List ℕ} (list : List ℕ) → count ≤ length list → front ≡ replicate (length (take count list)) 0
+    → Cleared count list (rejoined count list front)
+fill_zeros {count} {front} list few e =
+    let size : length front ≡ count = ap length e ∙ equal_length {A = ℕ} (length (take count list)) 0 ∙ length-take-le count list few in
+    record {
+      size = lent_length (record { few = few; size = size });
+      zeros = λ n l. get_or-append front (drop count list) 0 n (omega arith) ∙ ap (λ (f : List ℕ). at f n) e ∙ zeros-at (length (take count list)) n;
+    }
 
 -- The figures of the cords of the first i entries are summed on their nodes.
 pub record Credited (count : ℕ) (listed nodes : List ℕ) (figure : ℕ → ℕ) (i : ℕ) (sums : List ℕ) : Type 0 where
@@ -101,11 +118,6 @@ module _ {listed nodes starts wants : List ℕ} {x : ℕ} where
   }
 
   module _ {count i : ℕ} {wholes : List ℕ} (turn : WeightTurn count listed nodes starts wants x i wholes) where
-    pub weights_end : length listed ≤ i → (n : ℕ) → n < count → at wholes n ≡ over_listed listed nodes (cord_weight starts wants) n
-    weights_end end n l =
-        let e : i ≡ length listed = omega (arith, turn.reached) in
-        turn.wholes_are.sums_are n l ∙ ap (listed_before listed nodes (cord_weight starts wants) n) e
-
     module _ (more : i < length listed) {c : ℕ} (c_is : c ≡ at listed i) {node : ℕ} (node_is : node ≡ at nodes c) where
       pub weight_fits : {weight : ℕ} → weight ≤ most_watts → (node ≤ length wholes) × (at wholes (node - 1) + weight < 2 ^ 64)
       weight_fits = credited_fits turn.cords more c_is turn.wholes_are node_is (λ h l. omega (arith, turn.cords.most h l))
@@ -138,12 +150,6 @@ module _ {listed nodes starts wants : List ℕ} {x y : ℕ} where
   }
 
   module _ {count i : ℕ} {bases wholes : List ℕ} (turn : SumTurn count listed nodes starts wants x y i bases wholes) where
-    pub sums_end : length listed ≤ i → (n : ℕ) → n < count
-        → (at bases n ≡ over_listed listed nodes (at starts) n) × (at wholes n ≡ over_listed listed nodes (cord_weight starts wants) n)
-    sums_end end n l =
-        let e : i ≡ length listed = omega (arith, turn.weights.reached) in
-        (turn.bases_are.sums_are n l ∙ ap (listed_before listed nodes (at starts) n) e, weights_end turn.weights end n l)
-
     module _ (more : i < length listed) {c : ℕ} (c_is : c ≡ at listed i) {node : ℕ} (node_is : node ≡ at nodes c) where
       abbrev cords : LevelCords count listed nodes starts wants
       cords = turn.weights.cords

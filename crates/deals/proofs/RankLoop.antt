@@ -6,7 +6,7 @@ use Prim.Native.Nat.{ℕ, suc, ◌+◌, ◌-◌, ◌*◌, ◌/◌, ◌≤◌, �
 use native.Mathlib.Nat.{le_refl}
 use native.Mathlib.Omega.{arith}
 use lib.Dec.{eqb}
-use lib.ListN.{length, get_or}
+use lib.ListN.{length, get_or, take}
 use borrow.Author.Tests.{eqb-true, eqb-false}
 use Rattle.figures.specs.Sums.{on, sum}
 use Rattle.figures.proofs.Sums.{sum_cong, sum_zero}
@@ -17,6 +17,7 @@ use Rattle.figures.specs.Places.{Absent, Zeros}
 use Rattle.deals.specs.Levels.{ActiveNodes, CordsActive, CordsOf, LevelLists, entries, from_column, to_column, active_count_column}
 use Rattle.deals.proofs.Ordering.{entries-length}
 use Rattle.deals.specs.Passes.{LevelCords, over_listed, cord_weight, CordsSummed, weight_of, FullRows, WeightsListed, MayWeigh, Weighed, MayRequest, Requested, NodesDealt, CordsDealt}
+use Rattle.deals.proofs.Active.{absent_front, front_absent, nodes_front, cords_front}
 use Rattle.deals.proofs.Requesting.{beneath_none}
 use Rattle.deals.proofs.Gathered.{request_weight, Gathered, gathered, weight_listed, children_cong, dealt_again}
 use Rattle.deals.specs.Ranks.{NodeLists, CordLists, DealLists, DealGiven, SomeDeal, DealMade}
@@ -58,6 +59,10 @@ pub record LevelRow (rows : List (List ℕ)) (level from to count : ℕ) : Type 
   pub to_is : to ≡ cell rows level to_column
   pub count_is : count ≡ cell rows level active_count_column
   pub has_cords : from < to
+
+pub level_row : (rows : List (List ℕ)) (level : ℕ) {from to count : ℕ} → from ≡ cell rows level from_column → to ≡ cell rows level to_column
+    → count ≡ cell rows level active_count_column → from < to → LevelRow rows level from to count
+level_row rows level ef et ec some = record { from_is = ef; to_is = et; count_is = ec; has_cords = some }
 
 -- A number above 0 is one more than the number before it.
 one_more : (n : ℕ) → 0 < n → n ≡ suc (n - 1)
@@ -140,8 +145,9 @@ module _ {parents : List ℕ} {rows : List (List ℕ)} {order : List ℕ} {activ
         abbrev listed : List ℕ
         listed = entries order from to
 
+        -- The active nodes, which are lent as the front of their list.
         abbrev active : List ℕ
-        active = get_or actives level []
+        active = take count (get_or actives level [])
 
         pub part_end : to ≤ length order
         part_end = omega (arith, et, by_level.ordered.bounds level level_fits)
@@ -149,11 +155,17 @@ module _ {parents : List ℕ} {rows : List (List ℕ)} {order : List ℕ} {activ
         listed_of : (limits levels lows : List ℕ) → DealGiven parents rows order actives nodes starts wants left₀ limits levels lows → CordsOf levels level listed
         listed_of limits levels lows given = rw (ef, et) (given.by_level.ordered.cords level level_fits)
 
-        nodes_active : ActiveNodes parents active count
-        nodes_active = rw ec (by_level.nodes_active level level_fits (omega (arith, ef, et)))
+        listed_active : ActiveNodes parents (get_or actives level []) count
+        listed_active = rw ec (by_level.nodes_active level level_fits (omega (arith, ef, et)))
 
-        cords_active : (limits levels lows : List ℕ) → DealGiven parents rows order actives nodes starts wants left₀ limits levels lows → CordsActive nodes levels level active count
-        cords_active limits levels lows given = rw ec (given.by_level.cords_active level level_fits (omega (arith, ef, et)))
+        pub active_few : count ≤ length (get_or actives level [])
+        active_few = listed_active.few
+
+        nodes_active : ActiveNodes parents active (length active)
+        nodes_active = nodes_front listed_active
+
+        cords_active : (limits levels lows : List ℕ) → DealGiven parents rows order actives nodes starts wants left₀ limits levels lows → CordsActive nodes levels level active (length active)
+        cords_active limits levels lows given = cords_front nodes levels (get_or actives level []) active_few (rw ec (given.by_level.cords_active level level_fits (omega (arith, ef, et))))
 
         of : CordsOf some_deal.levels level listed
         of = listed_of some_deal.limits some_deal.levels some_deal.lows some_deal.given
@@ -198,7 +210,7 @@ module _ {parents : List ℕ} {rows : List (List ℕ)} {order : List ℕ} {activ
 
         module _ {b w : List ℕ} (sums : Summed b w) where
           -- No listed cord hangs on a node that is not active.
-          none_on : (figure : ℕ → ℕ) (n : ℕ) → Absent active count n → over_listed listed nodes figure n ≡ 0
+          none_on : (figure : ℕ → ℕ) (n : ℕ) → Absent active (length active) n → over_listed listed nodes figure n ≡ 0
           none_on figure n none = sum_cong (length listed) _ _ (λ i h. at_entry i h (eqb (at nodes (at listed i)) (suc n)) refl) ∙ sum_zero (length listed)
             where
               at_entry : (i : ℕ) → i < length listed → (t : Bool) → eqb (at nodes (at listed i)) (suc n) ≡ t → on t (figure (at listed i)) ≡ 0
@@ -209,11 +221,11 @@ module _ {parents : List ℕ} {rows : List (List ℕ)} {order : List ℕ} {activ
           sums-fit : (sum (length parents) (at b) ≤ most_cords * most_watts) × (sum (length parents) (at w) ≤ most_cords * most_watts)
           sums-fit = sums_most parents some_deal.limits nodes some_deal.levels some_deal.lows starts wants lists level here listed of b w sums.on-nodes.on_starts sums.on-nodes.on_weights
 
-          no_starts : (n : ℕ) → n < length parents → Absent active count n → at b n ≡ 0
+          no_starts : (n : ℕ) → n < length parents → Absent active (length active) n → at b n ≡ 0
           no_starts n l none = sums.on-nodes.on_starts n l ∙ none_on (at starts) n none
 
           -- What `request` asks.
-          pub request_asks : MayWeigh parents active count left w (length amounts₀) × MayRequest parents active count level left cuts b requests
+          pub request_asks : MayWeigh parents active (length active) left w (length amounts₀) × MayRequest parents active (length active) level left cuts b requests
           request_asks = (
             record {
               nodes = nodes_active;
@@ -233,12 +245,12 @@ module _ {parents : List ℕ} {rows : List (List ℕ)} {order : List ℕ} {activ
                     arith,
                     gather_asks parents some_deal.limits nodes some_deal.levels some_deal.lows starts wants lists level here listed of b w sums.on-nodes.on_starts sums.on-nodes.on_weights n l,
                   );
-              idle = λ n l none. (no_starts n l none, inv.blank.blank n level l level_fits (rw ec at none));
+              idle = λ n l none. (no_starts n l none, inv.blank.blank n level l level_fits (rw ec at (front_absent (get_or actives level []) active_few none)));
               full = inv.blank.full;
             },
           )
 
-          module _ {left₁ w₁ weights : List ℕ} {requests₁ : List (List ℕ)} {cuts₁ b₁ : List ℕ} (weighed : Weighed parents active count left w left₁ w₁ weights)
+          module _ {left₁ w₁ weights : List ℕ} {requests₁ : List (List ℕ)} {cuts₁ b₁ : List ℕ} (weighed : Weighed parents active (length active) left w left₁ w₁ weights)
               (requested : Requested parents level left w₁ cuts b requests cuts₁ b₁ requests₁) where
             abbrev g : Gathered parents level left cuts b w requests left₁ cuts₁ w₁ requests₁
             g = gathered weighed requested
@@ -256,13 +268,13 @@ module _ {parents : List ℕ} {rows : List (List ℕ)} {order : List ℕ} {activ
                 requests₁ left₁ cuts₁ w₁ g
 
             -- A node that is not active has no Request.
-            nodes_blank : (n : ℕ) → n < length parents → Absent active count n → cell requests₁ n level ≡ 0
+            nodes_blank : (n : ℕ) → n < length parents → Absent active (length active) n → cell requests₁ n level ≡ 0
             nodes_blank n l none =
                 omega (arith, requested.request n l, beneath_none nodes_active ns.rises b no_starts n l none, weighed.listed.idle n l none)
 
             -- What `deal_nodes` asks.
             pub deal_nodes_asks : ((length parents ≤ length before₀) × (length dealt₀ ≡ length before₀) × ParentsFirst (length parents) (at parents))
-                × (WeightsListed parents active count w₁ weights
+                × (WeightsListed parents active (length active) w₁ weights
                 × ((n : ℕ) → n < length parents → (weight_of weights w₁ n ≤ most_watts) × (at w₁ n ≤ most_cords * most_watts) × (child_sum (length parents) (at parents) n (weight_of weights w₁) ≤ at w₁ n)))
             deal_nodes_asks = (
               (enough inv.before_size, inv.dealt_size ∙ sym inv.before_size, ns.rises),
@@ -275,9 +287,9 @@ module _ {parents : List ℕ} {rows : List (List ℕ)} {order : List ℕ} {activ
               ),
             )
 
-            module _ {amounts before dealt : List ℕ} (by_weights : NodesDealt parents active count (weight_of weights w₁) w₁ amounts before dealt)
+            module _ {amounts before dealt : List ℕ} (by_weights : NodesDealt parents active (length active) (weight_of weights w₁) w₁ amounts before dealt)
                 (wholes_size : length w₁ ≡ figures_length) (amounts_size : length amounts ≡ figures_length) (before_size : length before ≡ figures_length) (dealt_size : length dealt ≡ figures_length) where
-              abbrev nd : NodesDealt parents active count weight w₁ amounts before dealt
+              abbrev nd : NodesDealt parents active (length active) weight w₁ amounts before dealt
               nd = dealt_again (λ h l. sym (weight_is h l)) by_weights
 
               -- What `deal_cords` asks.
@@ -291,7 +303,7 @@ module _ {parents : List ℕ} {rows : List (List ℕ)} {order : List ℕ} {activ
                 (
                   (wholes_size ∙ sym amounts_size, before_size ∙ sym amounts_size, dealt_size ∙ sym amounts_size, inv.grants_size),
                   cords_ask parents some_deal.limits nodes some_deal.levels some_deal.lows starts wants lists level here listed of b w sums.on-nodes.on_starts sums.on-nodes.on_weights
-                      requests₁ left₁ cuts₁ w₁ g active count nodes_active (cords_active some_deal.limits some_deal.levels some_deal.lows some_deal.given) amounts before dealt nd,
+                      requests₁ left₁ cuts₁ w₁ g active (length active) nodes_active (cords_active some_deal.limits some_deal.levels some_deal.lows some_deal.given) amounts before dealt nd,
                 ),
               )
 
@@ -314,13 +326,13 @@ module _ {parents : List ℕ} {rows : List (List ℕ)} {order : List ℕ} {activ
                   blank = record { full = requested.full; blank = λ n j h u absent. kept n j h u absent (eqb j level) refl };
                   state = λ limits levels lows given.
                       state_turn parents limits nodes levels lows starts wants given.lists level (at_level limits levels lows given) listed (listed_of limits levels lows given) b w
-                      sums.on-nodes.on_starts sums.on-nodes.on_weights requests₁ left₁ cuts₁ w₁ g active count nodes_active (cords_active limits levels lows given) amounts before dealt nd grants₁ cd;
+                      sums.on-nodes.on_starts sums.on-nodes.on_weights requests₁ left₁ cuts₁ w₁ g active (length active) nodes_active (cords_active limits levels lows given) amounts before dealt nd grants₁ cd;
                 }
                   where
                     kept : (n j : ℕ) → n < length parents → j < highest_rank → Absent (get_or actives j []) (cell rows j active_count_column) n → (t : Bool) → eqb j level ≡ t → cell requests₁ n j ≡ 0
                     kept n j h u absent true e =
                         let q = eqb-true j level e in
-                        rw q (nodes_blank n h (rw ec (rw q at absent)))
+                        rw q (nodes_blank n h (absent_front (get_or actives level []) active_few (rw ec (rw q at absent))))
                     kept n j h u absent false e = requested.others n j (eqb-false j level e) ∙ inv.blank.blank n j h u absent
 
 -- Before the first rank.

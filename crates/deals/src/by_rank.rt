@@ -8,7 +8,6 @@ ghost use Rattle.figures.specs.Places.{Zeros};
 use crate::dealing::{deal_cords, deal_nodes};
 use crate::levels::{ACTIVE_COUNT, FROM, TO};
 use crate::metrics::{add_cords, request};
-use figures::index;
 
 // The length of the lists with a rank's figure of each node: a little more than the most nodes. 512 figures of 64 bits fill a page, so
 // that such lists would start at the same place of their pages. The processor, which compares that place alone, would let a load from
@@ -17,10 +16,10 @@ pub const FIGURES: usize = 520;
 
 // The grants of a deal, rank by rank from the highest, over each rank's cords and active nodes, which `levels` lists. `left` comes with
 // what each limit has over all starts; before each rank it has what the Requests dealt and the starts to come leave, and in the end what
-// the Requests leave. `cuts` come with 0 and leave with the highest rank at which each node is cut, 0 if there is none. The Requests
-// stand in `requests`, a row a node and a column a rank; only those of active nodes are filled. `bases` (the starts beneath) and `wholes`
-// (the children's weights) have a rank's figure of each node; `amounts` (its weight, and then what it has to give), `before` (weights
-// served) and `dealt` that of each active one.
+// the Requests leave. `cuts` come with 0 and leave with the highest rank at which each node is cut, 0 if there is none: that is below every
+// rank, so that the greatest mark stands. The Requests stand in `requests`, a row a node and a column a rank; only those of active nodes
+// are filled. `bases` (the starts beneath) and `wholes` (the children's weights) have a rank's figure of each node; `amounts` (its weight,
+// and then what it has to give), `before` (weights served) and `dealt` that of each active one.
 pub fn deal(
     parents: &[u16],
     levels: &[[u16; 4]; 16],
@@ -47,26 +46,17 @@ pub fn deal(
     let mut before = [0u64; FIGURES];
     let mut dealt = [0u32; FIGURES];
     let n = parents.len();
-    let mut level: usize = 16;
-    while 0 < level {
-        level -= 1;
-        let from = index(levels[level][FROM]);
-        let to = index(levels[level][TO]);
+    for level in (0..16).rev() {
+        let from = usize::from(levels[level][FROM]);
+        let to = usize::from(levels[level][TO]);
         if from < to {
-            let count = index(levels[level][ACTIVE_COUNT]);
-            add_cords(
-                n,
-                &order[from..to],
-                nodes,
-                starts,
-                wants,
-                &mut bases,
-                &mut wholes,
-            );
+            let listed = &order[from..to];
+            let count = usize::from(levels[level][ACTIVE_COUNT]);
+            let active = &actives[level][..count];
+            add_cords(n, listed, nodes, starts, wants, &mut bases, &mut wholes);
             request(
                 parents,
-                &actives[level],
-                count,
+                active,
                 level,
                 left,
                 &mut wholes,
@@ -77,15 +67,14 @@ pub fn deal(
             );
             deal_nodes(
                 parents,
-                &actives[level],
-                count,
+                active,
                 &wholes,
                 &mut amounts,
                 &mut before,
                 &mut dealt,
             );
             deal_cords(
-                &order[from..to],
+                listed,
                 nodes,
                 starts,
                 wants,

@@ -5,7 +5,6 @@ ghost use Rattle.figures.specs.Figures.{at};
 ghost use Rattle.deals.specs.Passes.{LevelCords, WeightsListed, weight_of, over_listed, cord_weight, NodesDealt, CordsDealt};
 ghost use Rattle.rooms.specs.Trees.{ParentsFirst, child_sum};
 
-use figures::{index, wide};
 use splits::{serve, serve_by_division};
 
 // What each active node has to give at a level, in the place of its weight: a root its weight, any other its part of its parent's. A node's
@@ -13,7 +12,6 @@ use splits::{serve, serve_by_division};
 pub fn deal_nodes(
     parents: &[u16],
     active: &[u16],
-    count: usize,
     wholes: &[u64],
     amounts: &mut [u32],
     before: &mut [u64],
@@ -21,19 +19,19 @@ pub fn deal_nodes(
 )
     requires nodes { (length parents.now ≤ length before.old) × (length dealt.old ≡ length before.old)
         × ParentsFirst (length parents.now) (at parents.now) }
-    requires weights { WeightsListed parents.now active.now count wholes.now amounts.old }
+    requires weights { WeightsListed parents.now active.now (length active.now) wholes.now amounts.old }
     requires in_range { (n : ℕ) → n < length parents.now → (weight_of amounts.old wholes.now n ≤ most_watts)
         × (at wholes.now n ≤ most_cords * most_watts)
         × (child_sum (length parents.now) (at parents.now) n (weight_of amounts.old wholes.now) ≤ at wholes.now n) }
-    ensures nodes_dealt { NodesDealt parents.now active.now count (weight_of amounts.old wholes.now)
+    ensures nodes_dealt { NodesDealt parents.now active.now (length active.now) (weight_of amounts.old wholes.now)
         wholes.now amounts.new before.new dealt.new }
 {
-    for i in 0..count {
-        let m = index(active[i]);
+    for &node in active {
+        let m = usize::from(node);
         before[m] = 0;
         dealt[m] = 0;
-        let weight = wide(amounts[m]);
-        let parent = index(parents[m]);
+        let weight = u64::from(amounts[m]);
+        let parent = usize::from(parents[m]);
         if parent != 0 {
             let p = parent - 1;
             // A node that hangs on the one before it is mostly its only child.
@@ -65,14 +63,14 @@ pub fn deal_cords(
     ensures cords_dealt { CordsDealt listed.now nodes.now starts.now wants.now
         wholes.now amounts.now before.old grants.old grants.new }
 {
-    for i in 0..listed.len() {
-        let c = index(listed[i]);
-        let p = index(nodes[c]) - 1;
+    for &cord in listed {
+        let c = usize::from(cord);
+        let p = usize::from(nodes[c]) - 1;
         let start = starts[c];
         let watts = serve_by_division(
             amounts[p],
             wholes[p],
-            wide(wants[c] - start),
+            u64::from(wants[c] - start),
             p,
             before,
             dealt,

@@ -10,17 +10,7 @@ ghost use Rattle.figures.specs.Places.{Absent};
 ghost use Rattle.deals.specs.Levels.{ActiveNodes};
 ghost use Rattle.rooms.specs.Trees.{ParentsFirst};
 
-use figures::{credit, index, least, narrow, place, wide};
-
-// Sets the first entries to 0.
-fn clear(list: &mut [u64], count: usize)
-    requires count { count ≤ length list.old }
-    ensures zeros { (n : ℕ) → n < count → at list.new n ≡ 0 }
-{
-    for i in 0..count {
-        list[i] = 0;
-    }
-}
+use figures::credit;
 
 // The starts (in `bases`) and the weights (in `wholes`) of the listed cords, each summed on its cord's node, of so many nodes. The sums of
 // the starts come as zeros.
@@ -39,17 +29,18 @@ pub fn add_cords(
     ensures summed { CordsSummed count listed.now nodes.now starts.now wants.now
         bases.new wholes.new }
 {
-    clear(wholes, count);
-    for i in 0..listed.len() {
-        let c = index(listed[i]);
-        let node = index(nodes[c]);
+    wholes[..count].fill(0);
+    for &cord in listed {
+        let c = usize::from(cord);
+        let node = usize::from(nodes[c]);
         let start = starts[c];
-        credit(bases, node, wide(start));
-        credit(wholes, node, wide(wants[c] - start));
+        credit(bases, node, u64::from(start));
+        credit(wholes, node, u64::from(wants[c] - start));
     }
 }
 
 // The weights alone.
+// By hand: `add_cords` would do, with a list for the starts that nobody reads: one sum a cord more in headroom, which is slower.
 pub fn sum_weights(
     count: usize,
     listed: &[u16],
@@ -63,12 +54,12 @@ pub fn sum_weights(
     ensures summed { (n : ℕ) → n < count → at wholes.new n
         ≡ over_listed listed.now nodes.now (cord_weight starts.now wants.now) n }
 {
-    clear(wholes, count);
-    for i in 0..listed.len() {
-        let c = index(listed[i]);
-        let number = index(nodes[c]);
+    wholes[..count].fill(0);
+    for &cord in listed {
+        let c = usize::from(cord);
+        let number = usize::from(nodes[c]);
         let start = starts[c];
-        credit(wholes, number, wide(wants[c] - start));
+        credit(wholes, number, u64::from(wants[c] - start));
     }
 }
 
@@ -79,35 +70,34 @@ fn take(left: &mut [u32], n: usize, whole: u64) -> u32
     ensures taken { left.new ≡ set left.old n (at left.old n - result) }
 {
     let rest = left[n];
-    let weight = narrow(least(wide(rest), whole));
+    let weight = u64::from(rest).min(whole) as u32;
     left[n] = rest - weight;
     weight
 }
 
 // From the last active node to the first: a node's weight is taken, and added to its parent's sum.
+// By hand: `request` weighs too, but fills rows of 32 KiB, marks and sums of starts, which headroom has no use for; and with `weigh` as a
+// pass of its own before it, a rank would take one pass over the nodes more.
 pub fn weigh(
     parents: &[u16],
     active: &[u16],
-    count: usize,
     left: &mut [u32],
     wholes: &mut [u64],
     weights: &mut [u32],
 )
-    requires nodes { ActiveNodes parents.now active.now count × ParentsFirst (length parents.now) (at parents.now) }
+    requires nodes { ActiveNodes parents.now active.now (length active.now) × ParentsFirst (length parents.now) (at parents.now) }
     requires sizes { (length left.old ≡ length parents.now) × (length parents.now ≤ length wholes.old)
         × (length parents.now ≤ length weights.old) }
     requires sums_fit { sum (length parents.now) (at wholes.old) ≤ most_cords * most_watts }
-    requires idle { (n : ℕ) → n < length parents.now → Absent active.now count n → at wholes.old n ≡ 0 }
-    ensures weighed { Weighed parents.now active.now count left.old wholes.old left.new
+    requires idle { (n : ℕ) → n < length parents.now → Absent active.now (length active.now) n → at wholes.old n ≡ 0 }
+    ensures weighed { Weighed parents.now active.now (length active.now) left.old wholes.old left.new
         wholes.new weights.new }
 {
-    let mut i = count;
-    while 0 < i {
-        i -= 1;
-        let n = index(active[i]);
+    for i in (0..active.len()).rev() {
+        let n = usize::from(active[i]);
         let weight = take(left, n, wholes[n]);
         weights[n] = weight;
-        credit(wholes, index(parents[n]), wide(weight));
+        credit(wholes, usize::from(parents[n]), u64::from(weight));
     }
 }
 
@@ -116,12 +106,8 @@ fn marked(mark: u16, level: usize, left: u64, whole: u64) -> u16
     requires level { level < highest_rank }
     ensures result { result ≡ cut_mark mark level left whole }
 {
-    if left < whole {
-        if index(mark) <= level {
-            return place(level + 1);
-        }
-    }
-    mark
+    let rank = level as u16 + 1;
+    if left < whole { mark.max(rank) } else { mark }
 }
 
 // From the last active node to the first: a node's weight is taken and added to its parent's sum, as by `weigh`. Its Request is the starts
@@ -130,7 +116,6 @@ fn marked(mark: u16, level: usize, left: u64, whole: u64) -> u16
 pub fn request(
     parents: &[u16],
     active: &[u16],
-    count: usize,
     level: usize,
     left: &mut [u32],
     wholes: &mut [u64],
@@ -139,26 +124,24 @@ pub fn request(
     bases: &mut [u64],
     requests: &mut [[u32; 16]; 512],
 )
-    requires weights { MayWeigh parents.now active.now count left.old wholes.old (length weights.old) }
-    requires requests { MayRequest parents.now active.now count level left.old cuts.old bases.old requests.old }
-    ensures weighed { Weighed parents.now active.now count left.old wholes.old left.new
+    requires weights { MayWeigh parents.now active.now (length active.now) left.old wholes.old (length weights.old) }
+    requires requests { MayRequest parents.now active.now (length active.now) level left.old cuts.old bases.old requests.old }
+    ensures weighed { Weighed parents.now active.now (length active.now) left.old wholes.old left.new
         wholes.new weights.new }
     ensures requested { Requested parents.now level left.old wholes.new cuts.old
         bases.old requests.old cuts.new bases.new requests.new }
 {
-    let mut i = count;
-    while 0 < i {
-        i -= 1;
-        let n = index(active[i]);
-        let parent = index(parents[n]);
+    for i in (0..active.len()).rev() {
+        let n = usize::from(active[i]);
+        let parent = usize::from(parents[n]);
         let whole = wholes[n];
         let weight = take(left, n, whole);
-        credit(wholes, parent, wide(weight));
-        let start = narrow(bases[n]);
-        cuts[n] = marked(cuts[n], level, wide(weight), whole);
+        credit(wholes, parent, u64::from(weight));
+        let start = bases[n] as u32;
+        cuts[n] = marked(cuts[n], level, u64::from(weight), whole);
         requests[n][level] = start + weight;
         weights[n] = requests[n][level] - start;
-        credit(bases, parent, wide(start));
+        credit(bases, parent, u64::from(start));
         bases[n] = 0;
     }
 }

@@ -16,8 +16,9 @@ use Rattle.rooms.proofs.Trees.{child_sum_cong, child_sum_le, down}
 use Rattle.rooms.proofs.Credits.{tree_sum_most, tree_sum_step}
 use Rattle.splits.specs.Split.{part}
 use Rattle.deals.proofs.Amounts.{child_cords_most}
-use Rattle.figures.specs.Places.{Absent, Present}
+use Rattle.figures.specs.Places.{Present}
 use Rattle.deals.specs.Levels.{ActiveNodes}
+use Rattle.deals.proofs.Active.{nodes_front, front_absent}
 use Rattle.deals.specs.Passes.{LevelCords, listed_before, over_listed, cord_weight, weight_of, WeightsListed, Weighed, NodesDealt, CordsDealt}
 use Rattle.plan_headroom.specs.Passes.{AllPlaces, LendLists, cords_before, LendWeights, DealtOut}
 use Rattle.rooms.specs.Trees.{ParentsFirst, child_sum}
@@ -31,19 +32,25 @@ module _ {parents nodes wants ceilings all : List ℕ} (lists : LendLists parent
   node_stands : (n : ℕ) → n < length parents → at all n ≡ n
   node_stands n l = places.own n (omega (arith, lists.few-nodes))
 
-  all_nodes : ActiveNodes parents all (length parents)
-  all_nodes = record {
-    few = omega (arith, lists.few-nodes, places.size);
+  few_nodes : length parents ≤ length all
+  few_nodes = omega (arith, lists.few-nodes, places.size)
+
+  abbrev active : List ℕ
+  active = take (length parents) all
+
+  pub all_nodes : ActiveNodes parents active (length active)
+  all_nodes = nodes_front (record {
+    few = few_nodes;
     within = λ i h. omega (arith, node_stands i h);
     rises = λ i k h l. omega (arith, node_stands i (omega arith), node_stands k l);
     closed = λ m n l e none.
         let q : n < length parents = omega (arith, lists.rises m l) in
         absurd (none n q (node_stands n q));
-  }
+  })
 
   -- Every node is listed, and the front of the list has every cord.
-  here : (n : ℕ) → n < length parents → Present all (length parents) n
-  here n l none = none n l (node_stands n l)
+  pub here : (n : ℕ) → n < length parents → Present active (length active) n
+  here n l none = front_absent all few_nodes none n l (node_stands n l)
 
   abbrev listed : List ℕ
   listed = take (length nodes) all
@@ -83,29 +90,17 @@ module _ {parents nodes wants ceilings all : List ℕ} (lists : LendLists parent
 
   -- ---- The weights
 
-  pub sum_weights_asks : {wholes_length : ℕ} → length parents ≤ wholes_length → LevelCords (length parents) listed nodes wants ceilings × (length parents ≤ wholes_length)
-  sum_weights_asks enough = (all_cords (le_refl (length parents)), enough)
-
   -- What is summed on the nodes are the weights of all cords.
   abbrev pub OnNodes : List ℕ → Type 0
   OnNodes sums = (n : ℕ) → n < length parents → at sums n ≡ over_listed listed nodes weight n
 
-  sums_most : (sums : List ℕ) → OnNodes sums → sum (length parents) (at sums) ≤ most_cords * most_watts
+  pub sums_most : (sums : List ℕ) → OnNodes sums → sum (length parents) (at sums) ≤ most_cords * most_watts
   sums_most sums on-nodes =
       le_trans (le_of_eq (sum_cong (length parents) _ _ (λ n l. on-nodes n l ∙ listed_all n)))
       (le_trans (child_cords_most (length parents) (length nodes) (at nodes) lists.hangs lists.within weight most_watts (λ c l. omega (arith, lists.most c l)))
       (mul-le-mul_right most_watts lists.few))
 
-  pub weigh_asks : (left sums : List ℕ) {weights_length : ℕ} → length left ≡ length parents → OnNodes sums → length parents ≤ length sums → length parents ≤ weights_length
-      → (ActiveNodes parents all (length parents) × ParentsFirst (length parents) (at parents))
-      × (((length left ≡ length parents) × (length parents ≤ length sums) × (length parents ≤ weights_length))
-      × ((sum (length parents) (at sums) ≤ most_cords * most_watts) × ((n : ℕ) → n < length parents → Absent all (length parents) n → at sums n ≡ 0)))
-  weigh_asks left sums left_size on-nodes sums_size weights_size = (
-    (all_nodes, lists.rises),
-    ((left_size, sums_size, weights_size), (sums_most sums on-nodes, λ n l none. absurd (here n l none))),
-  )
-
-  module _ {left sums left' wholes weights : List ℕ} (g : Weighed parents all (length parents) left sums left' wholes weights)
+  module _ {left sums left' wholes weights : List ℕ} (g : Weighed parents active (length active) left sums left' wholes weights)
       (left_most : (n : ℕ) → n < length parents → at left n ≤ most_watts) (on-nodes : OnNodes sums) where
     children_are : (n : ℕ) → n < length parents → at wholes n ≡ child_sum (length parents) (at parents) n (weight_of weights wholes) + at sums n
     children_are n l =
@@ -139,7 +134,7 @@ module _ {parents nodes wants ceilings all : List ℕ} (lists : LendLists parent
   module _ {weights wholes : List ℕ} (weighed : LendWeights parents nodes wants ceilings weights wholes) where
     pub deal_nodes_asks : length parents ≤ length weights → length wholes ≡ length weights → {size_e size_d : ℕ} → size_e ≡ length weights → size_d ≡ length weights
         → ((length parents ≤ size_e) × (size_d ≡ size_e) × ParentsFirst (length parents) (at parents))
-        × (WeightsListed parents all (length parents) wholes weights
+        × (WeightsListed parents active (length active) wholes weights
         × ((n : ℕ) → n < length parents → (weight_of weights wholes n ≤ most_watts) × (at wholes n ≤ most_cords * most_watts) × (child_sum (length parents) (at parents) n (weight_of weights wholes) ≤ at wholes n)))
     deal_nodes_asks sa sw se sd = (
       (omega arith, sd ∙ sym se, lists.rises),
@@ -155,7 +150,7 @@ module _ {parents nodes wants ceilings all : List ℕ} (lists : LendLists parent
       ),
     )
 
-    module _ {amounts before dealt : List ℕ} (nd : NodesDealt parents all (length parents) (weight_of weights wholes) wholes amounts before dealt) where
+    module _ {amounts before dealt : List ℕ} (nd : NodesDealt parents active (length active) (weight_of weights wholes) wholes amounts before dealt) where
       there : (i n : ℕ) → i < length listed → at nodes (at listed i) ≡ suc n → n < length parents
       there i n h e = omega (arith, each (λ c. at nodes c ≤ length parents) lists.within i h)
 

@@ -13,15 +13,14 @@ ghost use Rattle.plan_headroom.specs.Passes.{AllPlaces, LendLists, LendWeights, 
 use deals::by_rank::FIGURES;
 use deals::dealing::{deal_cords, deal_nodes};
 use deals::metrics::{sum_weights, weigh};
-use figures::place;
 
 // Lists all places.
 fn list_all(all: &mut [u16])
     requires size { length all.old ≡ most_cords }
     ensures listed { AllPlaces all.new }
 {
-    for i in 0..all.len() {
-        all[i] = place(i);
+    for (place, entry) in all.iter_mut().enumerate() {
+        *entry = place as u16;
     }
 }
 
@@ -32,9 +31,9 @@ fn take_wants(wants: &[u32], tops: &[u32], headroom: &mut [u32])
     ensures taken { (c : ℕ) → c < length headroom.old
         → at headroom.new c ≡ at tops.now c - at wants.now c }
 {
-    for c in 0..headroom.len() {
+    for (c, entry) in headroom.iter_mut().enumerate() {
         let want = wants[c];
-        headroom[c] = tops[c] - want;
+        *entry = tops[c] - want;
     }
 }
 
@@ -59,7 +58,14 @@ fn deal_out(
     ensures dealt_out { DealtOut parents.now nodes.now wants.now headroom.old
         amounts.old wholes.now headroom.new }
 {
-    deal_nodes(parents, all, parents.len(), wholes, amounts, before, dealt);
+    deal_nodes(
+        parents,
+        &all[..parents.len()],
+        wholes,
+        amounts,
+        before,
+        dealt,
+    );
     deal_cords(
         &all[..nodes.len()],
         nodes,
@@ -100,7 +106,7 @@ pub fn lend(
     let n = parents.len();
     list_all(&mut all);
     sum_weights(n, &all[..nodes.len()], nodes, wants, headroom, &mut wholes);
-    weigh(parents, &all, n, left, &mut wholes, &mut amounts);
+    weigh(parents, &all[..n], left, &mut wholes, &mut amounts);
     deal_out(
         parents,
         &all,

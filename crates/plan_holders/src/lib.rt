@@ -8,7 +8,6 @@ ghost use Rattle.figures.specs.Sums.{on};
 ghost use Rattle.rooms.specs.Table.{most_nodes, highest_rank};
 ghost use Rattle.plan_holders.specs.Holding.{HeldLists, CutNodes, HolderRows, next_row, held_from};
 
-use figures::{index, index_word, place};
 use rooms::lists::{LEVEL, NODE};
 
 // A node's number if it is cut at a rank or a higher one, else 0. `cut` is the highest rank at which it is.
@@ -30,21 +29,22 @@ fn next_row(above: [u16; 16], cut: u16, number: u16) -> [u16; 16]
     ensures result { result ≡ next_row above cut number }
 {
     let mut row = above;
-    for level in 0..16 {
-        row[level] = nearer_root(row[level], own(place(level + 1), cut, number));
+    for (level, holder) in row.iter_mut().enumerate() {
+        *holder = nearer_root(*holder, own(level as u16 + 1, cut, number));
     }
     row
 }
 
 // The row of each node, by its number, from the first node to the last: a parent's stands before its child's. Row 0, which stands for a
 // root's parent, names none; all rows come as zeros.
+// By hand: 0 for none in the rows, as in the held list that C is given; a list of `Option<u16>` would take twice the 16 KiB of stack.
 fn fill_rows(parents: &[u16], cuts: &[u16], rows: &mut [[u16; 16]; 513])
     requires nodes { CutNodes parents.now cuts.now × ZeroRows (suc most_nodes) highest_rank rows.old }
     ensures holders { HolderRows parents.now cuts.now rows.new }
 {
-    for n in 0..parents.len() {
-        let above = rows[index(parents[n])];
-        rows[n + 1] = next_row(above, cuts[n], place(n + 1));
+    for (n, &parent) in parents.iter().enumerate() {
+        let above = rows[usize::from(parent)];
+        rows[n + 1] = next_row(above, cuts[n], n as u16 + 1);
     }
 }
 
@@ -52,11 +52,7 @@ fn fill_rows(parents: &[u16], cuts: &[u16], rows: &mut [[u16; 16]; 513])
 fn held_by(grant: u32, want: u32, holder: u16) -> u32
     ensures result { result ≡ cond (eqb grant want) 0 holder }
 {
-    if grant == want {
-        0
-    } else {
-        index_word(index(holder))
-    }
+    if grant == want { 0 } else { u32::from(holder) }
 }
 
 // For each cord 0 if its grant is its want, else the number of the node that holds it. `cuts` have the highest rank at which each node is
@@ -75,9 +71,9 @@ pub fn name_holders(
 {
     let mut rows = [[0u16; 16]; 513];
     fill_rows(parents, cuts, &mut rows);
-    for c in 0..cords.len() {
-        let node = index(cords[c][NODE]);
-        let level = index(cords[c][LEVEL]);
+    for (c, cord) in cords.iter().enumerate() {
+        let node = usize::from(cord[NODE]);
+        let level = usize::from(cord[LEVEL]);
         held[c] = held_by(grants[c], wants[c], rows[node][level]);
     }
 }

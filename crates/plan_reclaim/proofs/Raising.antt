@@ -20,7 +20,6 @@ use Rattle.figures.specs.Credits.{credited}
 use Rattle.figures.proofs.Credits.{credited-length, figure_in_sum, sum_zeros, sum-credited}
 use Rattle.rooms.proofs.Credits.{tree_sum_zero, tree_sum-credited}
 use Rattle.deals.proofs.NodeSums.{Summing, summing_start, summing_at, whole_at}
-use Rattle.plan_reclaim.specs.Raising.{Raisable}
 use Rattle.deals.specs.Ranks.{list_beneath}
 
 -- ---- The loop over the cords
@@ -128,7 +127,7 @@ module _ {parents raised₀ left₀ : List ℕ} {m : ℕ} {raised left : List �
         go i l (inl e) = rw (← e) (omega (arith, get_or-set_same left m over 0 (omega (arith, inv.size, node_there)), here))
         go i l (inr later) = omega (arith, get_or-set_other left m i over 0 (λ e. omega arith), inv.taken i later l)
 
--- ---- Both loops
+-- ---- Before both loops
 
 -- The front of a list of zeros has 0 at every place, also past its end.
 pub zeros-front-at : (k n i : ℕ) → ◌≡◌ {A = ℕ} (get_or (take n (replicate k 0)) i 0) 0
@@ -136,38 +135,3 @@ zeros-front-at k zero i = refl
 zeros-front-at zero (suc n) i = refl
 zeros-front-at (suc k) (suc n) zero = refl
 zeros-front-at (suc k) (suc n) (suc i) = zeros-front-at k n i
-
--- What the cords rise by stands on the room's nodes.
-pub record Raised (parents nodes lows starts raised : List ℕ) : Type 0 where
-  pub size : length raised ≡ length parents
-  pub most : sum (length parents) (at raised) ≤ most_cords * most_watts
-  pub risen : (n : ℕ) → tree_sum (at parents) (length parents) (at raised) n + list_beneath parents nodes lows n ≡ list_beneath parents nodes starts n
-
-module _ {parents nodes lows starts left : List ℕ} (ok : Raisable parents nodes lows starts left) where
-  -- What `credit_rises` asks of its lists.
-  pub credit_asks : (raised : List ℕ) → length raised ≡ length parents → ((n : ℕ) → at raised n ≡ 0)
-      → ((length nodes ≤ most_cords) × (length lows ≡ length nodes) × (length starts ≡ length nodes))
-      × (((c : ℕ) → c < length nodes → (1 ≤ at nodes c) × (at nodes c ≤ length raised) × (at lows c ≤ at starts c) × (at starts c ≤ most_watts))
-      × ((n : ℕ) → at raised n ≡ 0))
-  credit_asks raised size zeros = (
-    (ok.few, ok.lows_size, ok.starts_size),
-    (λ c l. (ok.hangs c l, omega (arith, ok.within c l), ok.least c l, ok.most c l), zeros),
-  )
-
-  -- What it leaves in the list that it was lent, which is lent again.
-  pub raised_again : (lent : List ℕ) {back again : List ℕ} → length lent ≡ length parents → length back ≡ length lent → again ≡ back
-      → sum (length lent) (at back) ≤ most_cords * most_watts
-      → ((parents' : List ℕ) (n : ℕ) → length parents' ≡ length lent → tree_sum (at parents') (length parents') (at back) n + list_beneath parents' nodes lows n ≡ list_beneath parents' nodes starts n)
-      → Raised parents nodes lows starts again
-  raised_again lent size kept again most risen =
-      rw again (record { size = kept ∙ size; most = rw (← size) most; risen = λ n. risen parents n (sym size) })
-
-  module _ {raised : List ℕ} (done : Raised parents nodes lows starts raised) where
-    -- What `take_rises` asks of its lists.
-    pub take_asks : ((length raised ≡ length parents) × (length left ≡ length parents) × (sum (length parents) (at raised) ≤ most_cords * most_watts))
-        × (ParentsFirst (length parents) (at parents) × ((n : ℕ) → n < length parents → tree_sum (at parents) (length parents) (at raised) n ≤ at left n))
-    take_asks = ((done.size, ok.left_size, done.most), (ok.rises, λ n l. omega (arith, done.risen n, ok.enough n l)))
-
-    pub raised-end : (left' : List ℕ) → ((n : ℕ) → n < length parents → at left' n + tree_sum (at parents) (length parents) (at raised) n ≡ at left n)
-        → (n : ℕ) → n < length parents → at left' n + list_beneath parents nodes starts n ≡ at left n + list_beneath parents nodes lows n
-    raised-end left' taken n l = omega (arith, taken n l, done.risen n)

@@ -7,7 +7,6 @@ ghost use Rattle.figures.specs.Figures.{column};
 ghost use Rattle.rooms.specs.Rows.{server_column, share_column};
 ghost use Rattle.plan_reclaim.specs.Reclaimed.{ServerLists, usable_from, used_from, freed_from, wants_from};
 
-use figures::{index, least, narrow, over, wide, word16};
 use rooms::limits::carried_by;
 use rooms::lists::{SERVER, SHARE};
 
@@ -20,12 +19,12 @@ pub fn usable_of(cords: &[[u16; 4]], grants: &[u32], usable: &mut [u32], scale: 
     ensures usable { usable.new ≡ usable_from scale (column share_column cords.now) (column server_column cords.now)
         usable.old grants.now }
 {
-    for c in 0..cords.len() {
-        let cord = cords[c];
-        let share = wide(word16(cord[SHARE]));
+    for (c, cord) in cords.iter().enumerate() {
+        let share = u64::from(cord[SHARE]);
         if share != 0 {
-            let v = index(cord[SERVER]);
-            usable[v] = narrow(least(wide(usable[v]), wide(scale) * wide(grants[c]) / share));
+            let v = usize::from(cord[SERVER]);
+            let load = u64::from(scale) * u64::from(grants[c]) / share;
+            usable[v] = u64::from(usable[v]).min(load) as u32;
         }
     }
 }
@@ -38,7 +37,7 @@ fn next_want(stranded: u64, used: u32, want: u32) -> u32
 {
     // 1 if watts are stranded, else 0: only then the sum carries into bit 32. A comparison might be compiled to a branch.
     let some = (stranded + 4294967295) / 4294967296;
-    narrow(some * wide(used) + (1 - some) * wide(want))
+    (some * u64::from(used) + (1 - some) * u64::from(want)) as u32
 }
 
 // After the first deal: the next one starts from each cord's used watts, and the cords that have stranded watts want no more than
@@ -61,10 +60,10 @@ pub fn reclaim(
         (column server_column cords.now) usable.now) grants.now wants.old }
 {
     let mut freed: u64 = 0;
-    for c in 0..cords.len() {
-        let cord = cords[c];
-        let used = carried_by(word16(cord[SHARE]), usable[index(cord[SERVER])], scale);
-        let stranded = over(wide(grants[c]), wide(used));
+    for (c, cord) in cords.iter().enumerate() {
+        let watts = usable[usize::from(cord[SERVER])];
+        let used = carried_by(u32::from(cord[SHARE]), watts, scale);
+        let stranded = u64::from(grants[c].saturating_sub(used));
         freed += stranded;
         starts[c] = used;
         wants[c] = next_want(stranded, used, wants[c]);

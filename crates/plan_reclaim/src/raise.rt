@@ -8,7 +8,7 @@ ghost use Rattle.plan_reclaim.specs.Raising.{Raisable};
 ghost use Rattle.deals.specs.Ranks.{list_beneath};
 ghost use Rattle.rooms.specs.Trees.{ParentsFirst};
 
-use figures::{credit, index, narrow, wide};
+use figures::credit;
 use rooms::MOST_NODES;
 
 // What each cord's start has over its low is credited to the cord's node. A node and all nodes beneath it then have, together, what
@@ -23,8 +23,8 @@ fn credit_rises(nodes: &[u16], lows: &[u32], starts: &[u32], raised: &mut [u64])
         → tree_sum (at parents) (length parents) (at raised.new) n + list_beneath parents nodes.now lows.now n
         ≡ list_beneath parents nodes.now starts.now n }
 {
-    for c in 0..nodes.len() {
-        credit(raised, index(nodes[c]), wide(starts[c] - lows[c]));
+    for (c, &node) in nodes.iter().enumerate() {
+        credit(raised, usize::from(node), u64::from(starts[c] - lows[c]));
     }
 }
 
@@ -39,12 +39,10 @@ fn take_rises(parents: &[u16], raised: &mut [u64], left: &mut [u32])
         → at left.new n + tree_sum (at parents.now) (length parents.now) (at raised.old) n
         ≡ at left.old n }
 {
-    let mut n = parents.len();
-    while 0 < n {
-        n -= 1;
+    for n in (0..parents.len()).rev() {
         let more = raised[n];
-        left[n] = narrow(wide(left[n]) - more);
-        credit(raised, index(parents[n]), more);
+        left[n] = (u64::from(left[n]) - more) as u32;
+        credit(raised, usize::from(parents[n]), more);
     }
 }
 

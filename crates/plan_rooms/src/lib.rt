@@ -52,8 +52,8 @@ fn deal_twice(
     let n = parents.len();
     let k = nodes.len();
     let v = caps.len();
-    figures::copy(left, &mut first_left[..n]);
-    figures::copy(caps, &mut usable[..v]);
+    first_left[..n].copy_from_slice(left);
+    usable[..v].copy_from_slice(caps);
     list_levels(parents, cords, &mut levels, &mut order[..k], &mut actives);
     deal(
         parents,

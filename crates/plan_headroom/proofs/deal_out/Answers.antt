@@ -1,16 +1,13 @@
 -- `deal_out` meets its contract: the weights are dealt to the nodes, then to the cords.
 use mathlib.Core.Path.{sym, ◌∙◌}
 use native.Mathlib.Omega.{arith}
-use Rattle.plan_headroom.proofs.Weights.{listed_length, deal_nodes_asks, deal_cords_asks, take_wants_asks, shared}
+use Rattle.plan_headroom.proofs.Weights.{deal_nodes_asks, deal_cords_asks, take_wants_asks, shared}
 use Rattle.plan_headroom.proofs.deal_out.Goals as goal
 
 pub deal_nodes-requires : goal.deal_nodes-requires
 deal_nodes-requires c =
     let all = deal_nodes_asks c.requires.lists c.requires.places.0 c.requires.weights c.requires.sizes.0 c.requires.sizes.1 c.requires.sizes.2 c.requires.sizes.3 in
     record { nodes = all.0; weights = all.1.0; in_range = all.1.1 }
-
-pub slice_bounds-deal_cords-end : goal.slice_bounds-deal_cords-end
-slice_bounds-deal_cords-end c = sym (listed_length c.requires.lists c.requires.places.0)
 
 pub deal_cords-requires : goal.deal_cords-requires
 deal_cords-requires c =

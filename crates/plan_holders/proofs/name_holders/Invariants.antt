@@ -1,4 +1,3 @@
-use Prim.Native.Nat.{◌-◌}
 use lib.ListN.{length}
 use Rattle.figures.proofs.Filled.{Filled}
 use Rattle.plan_holders.proofs.Rows.{held_at}
@@ -6,6 +5,3 @@ use Rattle.plan_holders.proofs.name_holders.Given as goal
 
 abbrev pub invariant-loop-c : goal.invariant-loop-c
 invariant-loop-c l = Filled (held_at l.parents l.cuts l.cords l.wants l.grants) (length l.initial.held) l.c l.held
-
-abbrev pub decreases-loop-c : goal.decreases-loop-c
-decreases-loop-c l = length l.cords - l.c

@@ -1,9 +1,5 @@
-use Prim.Native.Nat.{◌-◌}
 use Rattle.plan_holders.proofs.Rows.{Turning}
 use Rattle.plan_holders.proofs.next_row.Given as goal
 
 abbrev pub invariant-loop-level : goal.invariant-loop-level
-invariant-loop-level l = Turning l.initial.row l.cut l.number l.level l.row
-
-abbrev pub decreases-loop-level : goal.decreases-loop-level
-decreases-loop-level l = 16 - l.level
+invariant-loop-level l = Turning l.initial.holder-items l.cut l.number l.level l.holder-items

@@ -1,78 +1,25 @@
 -- `add_cords` meets its contract: before each turn the cords of the entries passed are summed on their nodes.
-use mathlib.Core.Path.{refl, ◌∙◌}
-use Prim.Native.Nat.{◌≤◌, ◌<◌}
+use mathlib.Core.Path.{refl}
 use native.Mathlib.Omega.{arith}
-use lib.ListN.{length}
-use Rattle.figures.specs.Figures.{at}
-use Rattle.rooms.specs.Table.{most_watts}
-use Rattle.deals.proofs.CordSums.{cord-within, cord_bounds, sums_start, sums_end, start_fits, weight_fits, sums_next}
+use Rattle.deals.proofs.CordSums.{cord_bounds, sums_start, start_fits, weight_fits, sums_next, fill_zeros}
 use Rattle.deals.proofs.metrics.add_cords.Goals as goal
 
-pub loop-i-init : goal.loop-i-init
-loop-i-init c = sums_start c.requires.cords refl refl c.requires.sizes.0 (omega (arith, c.requires.sizes.1, c.clear.auto.list)) c.requires.zeros c.clear.ensures.zeros
+pub loop-cord-init : goal.loop-cord-init
+loop-cord-init c =
+    let cleared = fill_zeros c.args.wholes.now c.requires.sizes.1 (c.fill.ensures.after (λ y e. e)) in
+    sums_start c.requires.cords refl refl c.requires.sizes.0 (omega (arith, c.requires.sizes.1, cleared.size)) c.requires.zeros cleared.zeros
 
-pub bounds-nodes-c : goal.bounds-nodes-c
-bounds-nodes-c c =
-    let cord_there : (c.index-c.result < length c.args.nodes.now) × (c.index-c.result < length c.args.starts.now) × (c.index-c.result < length c.args.wants.now) = let here = cord-within c.requires.cords c.loop-i-test.true c.index-c.ensures.result.0 in (
-      here,
-      omega (arith, here, c.requires.cords.starts_size),
-      omega (arith, here, c.requires.cords.wants_size),
-    ) in
-    cord_there.0
+pub credit-requires-clause-no_overflow : goal.credit-requires-clause-no_overflow
+credit-requires-clause-no_overflow c =
+    (start_fits c.loop-cord.invariant c.loop-cord-test.true c.from-c.ensures c.from-node.ensures
+    (omega (arith, c.from.ensures, cord_bounds c.requires.cords c.loop-cord-test.true c.from-c.ensures))).1
 
-pub bounds-starts-c : goal.bounds-starts-c
-bounds-starts-c c =
-    let cord_there : (c.index-c.result < length c.args.nodes.now) × (c.index-c.result < length c.args.starts.now) × (c.index-c.result < length c.args.wants.now) = let here = cord-within c.requires.cords c.loop-i-test.true c.index-c.ensures.result.0 in (
-      here,
-      omega (arith, here, c.requires.cords.starts_size),
-      omega (arith, here, c.requires.cords.wants_size),
-    ) in
-    omega (arith, cord_there)
+pub credit-requires-in-loop-cord-clause-no_overflow : goal.credit-requires-in-loop-cord-clause-no_overflow
+credit-requires-in-loop-cord-clause-no_overflow c =
+    (weight_fits c.loop-cord.invariant.weights c.loop-cord-test.true c.from-c.ensures c.from-node.ensures
+    (omega (arith, c.from-in-loop-cord.ensures, cord_bounds c.requires.cords c.loop-cord-test.true c.from-c.ensures))).1
 
-pub credit-requires : goal.credit-requires
-credit-requires c =
-    let bounds : (at c.args.starts.now c.index-c.result ≤ at c.args.wants.now c.index-c.result) × (at c.args.wants.now c.index-c.result ≤ most_watts) = cord_bounds c.requires.cords c.loop-i-test.true c.index-c.ensures.result.0 in
-    let both = start_fits c.loop-i.invariant c.loop-i-test.true c.index-c.ensures.result.0 c.index-node.ensures.result.0
-    (omega (arith, c.wide.ensures.result.0, bounds)) in
-    record { node = both.0; no_overflow = both.1 }
-
-pub bounds-wants-c : goal.bounds-wants-c
-bounds-wants-c c =
-    let cord_there : (c.index-c.result < length c.args.nodes.now) × (c.index-c.result < length c.args.starts.now) × (c.index-c.result < length c.args.wants.now) = let here = cord-within c.requires.cords c.loop-i-test.true c.index-c.ensures.result.0 in (
-      here,
-      omega (arith, here, c.requires.cords.starts_size),
-      omega (arith, here, c.requires.cords.wants_size),
-    ) in
-    omega (arith, cord_there)
-
-pub overflow_sub-wants : goal.overflow_sub-wants
-overflow_sub-wants c =
-    let bounds : (at c.args.starts.now c.index-c.result ≤ at c.args.wants.now c.index-c.result) × (at c.args.wants.now c.index-c.result ≤ most_watts) = cord_bounds c.requires.cords c.loop-i-test.true c.index-c.ensures.result.0 in
-    omega (arith, bounds)
-
-pub credit-requires-in-loop-i : goal.credit-requires-in-loop-i
-credit-requires-in-loop-i c =
-    let bounds : (at c.args.starts.now c.index-c.result ≤ at c.args.wants.now c.index-c.result) × (at c.args.wants.now c.index-c.result ≤ most_watts) = cord_bounds c.requires.cords c.loop-i-test.true c.index-c.ensures.result.0 in
-    let both = weight_fits c.loop-i.invariant.weights c.loop-i-test.true c.index-c.ensures.result.0 c.index-node.ensures.result.0
-    (omega (arith, c.wide-in-loop-i.ensures.result.0, bounds)) in
-    record { node = both.0; no_overflow = both.1 }
-
-pub loop-i-preserved : goal.loop-i-preserved
-loop-i-preserved c =
-    sums_next c.loop-i.invariant c.loop-i-test.true c.index-c.ensures.result.0 c.index-node.ensures.result.0
-    c.wide.ensures.result.0 c.wide-in-loop-i.ensures.result.0
-    c.credit.ensures.credited c.credit-in-loop-i.ensures.credited
-
-pub shape_of-bases : goal.shape_of-bases
-shape_of-bases c = c.loop-i.invariant.bases_size
-
-pub shape_of-wholes : goal.shape_of-wholes
-shape_of-wholes c = c.loop-i.invariant.weights.wholes_size ∙ c.clear.auto.list
-
-pub returns : goal.returns
-returns c =
-    record {
-      summed =
-          let all = sums_end c.loop-i.invariant c.loop-i-test.false in
-          record { on_starts = λ n l. (all n l).0; on_weights = λ n l. (all n l).1 };
-    }
+pub loop-cord-preserved : goal.loop-cord-preserved
+loop-cord-preserved c =
+    sums_next c.loop-cord.invariant c.loop-cord-test.true c.from-c.ensures c.from-node.ensures
+    c.from.ensures c.from-in-loop-cord.ensures c.credit.ensures.credited c.credit-in-loop-cord.ensures.credited

@@ -8,25 +8,12 @@ use Rattle.plan_reclaim.proofs.raise.credit_rises.Goals as goal
 pub loop-c-init : goal.loop-c-init
 loop-c-init c = (omega arith, rises_start c.requires.zeros)
 
-pub bounds-starts-c : goal.bounds-starts-c
-bounds-starts-c c = omega (arith, c.requires.sizes.2, c.loop-c-test.true)
-
-pub bounds-lows-c : goal.bounds-lows-c
-bounds-lows-c c = omega (arith, c.requires.sizes.1, c.loop-c-test.true)
-
-pub overflow_sub-starts : goal.overflow_sub-starts
-overflow_sub-starts c = (c.requires.cords _ c.loop-c-test.true).2
-
-pub credit-requires : goal.credit-requires
-credit-requires c =
-    let both = rise_fits c.loop-c.invariant.1 c.index.ensures.result.0 c.wide.ensures.result.0 (c.requires.cords _ c.loop-c-test.true) (omega (arith, c.requires.sizes.0, c.loop-c-test.true)) in
-    record { node = both.0; no_overflow = both.1 }
+pub credit-requires-clause-no_overflow : goal.credit-requires-clause-no_overflow
+credit-requires-clause-no_overflow c =
+    (rise_fits c.loop-c.invariant.1 c.from.ensures c.from-in-loop-c.ensures (c.requires.cords _ c.loop-c-test.true) (omega (arith, c.requires.sizes.0, c.loop-c-test.true))).1
 
 pub loop-c-preserved : goal.loop-c-preserved
-loop-c-preserved c = (omega (arith, c.loop-c-test.true), rises_turn c.loop-c.invariant.1 c.index.ensures.result.0 c.wide.ensures.result.0 (c.requires.cords _ c.loop-c-test.true) c.credit.ensures.credited)
-
-pub shape_of-raised : goal.shape_of-raised
-shape_of-raised c = c.loop-c.invariant.1.size
+loop-c-preserved c = (omega (arith, c.loop-c-test.true), rises_turn c.loop-c.invariant.1 c.from.ensures c.from-in-loop-c.ensures (c.requires.cords _ c.loop-c-test.true) c.credit.ensures.credited)
 
 pub returns : goal.returns
 returns c =

@@ -11,7 +11,6 @@ ghost use Rattle.rooms.specs.Lists.{parents_of, limits_of};
 ghost use Rattle.rooms.specs.Rows.{OfRoom, NodesFit, node_column};
 ghost use Rattle.layout.specs.Lists.{HasLowsBeneath, CordsLent, CordsLaidOut};
 
-use figures::{narrow, place, short, wide, word_index};
 use rooms::limits::carried_by;
 use rooms::lists::{NODE, first_server, lay_out_nodes, table_scale};
 
@@ -24,8 +23,8 @@ fn spare_limits(beneath: &[u64], limits: &mut [u32])
     ensures spared { (n : ℕ) → n < length limits.old
         → at limits.new n + at beneath.now n ≡ at limits.old n }
 {
-    for n in 0..limits.len() {
-        limits[n] = narrow(wide(limits[n]) - beneath[n]);
+    for (n, limit) in limits.iter_mut().enumerate() {
+        *limit -= beneath[n] as u32;
     }
 }
 
@@ -45,8 +44,7 @@ pub fn load_nodes(table: &[u32], beneath: &[u64], parents: &mut [u16], spare: &m
 pub fn need_of(demand: u32, least: u32, greatest: u32) -> u32
     ensures need { result ≡ min (max demand least) greatest }
 {
-    let raised = if demand < least { least } else { demand };
-    if greatest < raised { greatest } else { raised }
+    demand.max(least).min(greatest)
 }
 
 // What the cord at place c carries of its server's least, need and greatest.
@@ -90,17 +88,17 @@ pub fn load_cords(
     let scale = table_scale(table);
     let mut start = first_server(table);
     let mut first = 0;
-    for v in 0..demands.len() {
-        let level = short(table[start] - 1);
+    for (v, demand) in demands.iter().enumerate() {
+        let level = (table[start] - 1) as u16;
         let least = table[start + 1];
         let greatest = table[start + 2];
-        let need = need_of(demands[v], least, greatest);
-        let count = word_index(table[start + 3]);
+        let need = need_of(*demand, least, greatest);
+        let count = table[start + 3] as usize;
         let mut word = start + 4;
         for c in first..first + count {
-            let node = short(table[word]);
+            let node = table[word] as u16;
             let share = table[word + 1];
-            cords[c] = [node, place(v), level, short(share)];
+            cords[c] = [node, v as u16, level, share as u16];
             load_cord(
                 c, share, scale, least, need, greatest, lows, wants, ceilings,
             );
@@ -117,7 +115,7 @@ pub fn list_nodes(cords: &[[u16; 4]], nodes: &mut [u16])
     requires size { length nodes.old ≡ length cords.now }
     ensures listed { nodes.new ≡ column node_column cords.now }
 {
-    for c in 0..cords.len() {
-        nodes[c] = cords[c][NODE];
+    for (c, node) in nodes.iter_mut().enumerate() {
+        *node = cords[c][NODE];
     }
 }

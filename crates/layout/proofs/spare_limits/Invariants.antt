@@ -1,9 +1,10 @@
-use Prim.Native.Nat.{◌-◌}
-use Rattle.layout.proofs.Spare.{SpareTurn}
+use Prim.Native.Nat.{ℕ, ◌+◌, ◌≤◌, ◌<◌}
+use mathlib.Core.Path.{◌≡◌}
+use Rattle.figures.specs.Figures.{at}
 use Rattle.layout.proofs.spare_limits.Given as goal
 
+-- The nodes passed have what their limits have over the lows, the others their limits.
 abbrev pub invariant-loop-n : goal.invariant-loop-n
-invariant-loop-n l = SpareTurn l.initial.limits l.beneath l.n l.limits
-
-abbrev pub decreases-loop-n : goal.decreases-loop-n
-decreases-loop-n l = l.n-end - l.n
+invariant-loop-n l =
+    ((m : ℕ) → m < l.n → at l.limits m + at l.beneath m ≡ at l.initial.limits m)
+    × ((m : ℕ) → l.n ≤ m → at l.limits m ≡ at l.initial.limits m)

@@ -2,16 +2,16 @@
 use mathlib.Core.Path.{◌≡◌, refl, sym, ap, ◌∙◌}
 use mathlib.Core.Bool.{cond}
 use mathlib.Core.List.{List}
-use Prim.Native.Nat.{ℕ, suc, ◌+◌, ◌-◌, ◌*◌, ◌^◌, ◌≤◌, ◌<◌, min, max}
+use Prim.Native.Nat.{ℕ, suc, ◌+◌, ◌-◌, ◌*◌, ◌^◌, ◌≤◌, ◌<◌, min, max, zero-le}
 use native.Mathlib.Omega.{arith}
 use lib.Dec.{ltb}
 use lib.ListN.{length}
 use borrow.Author.Tests.{lt-ltb}
+use Rattle.std.specs.Prelude.{Option, None, Some}
 use Rattle.figures.specs.Figures.{at}
-use Rattle.figures.specs.Credits.{credited}
 use Rattle.rooms.specs.Part.{good, Good}
 use Rattle.rooms.specs.Table.{Room, IsScale, most_nodes, most_servers, most_cords, most_watts, highest_rank, room_cords}
-use Rattle.rooms.specs.Limits.{checked, carried, first_node}
+use Rattle.rooms.specs.Limits.{checked, carried}
 use Rattle.rooms.specs.Cords.{RoomCord, server_at}
 use Rattle.rooms.specs.Lists.{nodes_of, levels_of, lows_of}
 use Rattle.rooms.specs.Rows.{ServersFit, CordsFit, ScaleIs}
@@ -19,30 +19,29 @@ use Rattle.rooms.specs.Walk.{servers_index}
 use Rattle.rooms.proofs.Accepted.{Accepted, accepted}
 use Rattle.rooms.proofs.Walk.{Walk, ServerHere, walk_start, walk_server, walk_end}
 use Rattle.deals.specs.Wants.{first_wants}
-use Rattle.deals.specs.Judge.{below_low}
+use Rattle.deals.specs.Judge.{below_low, above_want}
 use Rattle.deals.proofs.RoomDeals.{nodes_of-length, nodes_of-at, levels_of-at}
 use Rattle.layout.proofs.Carrying.{CordStands, cord_stands, carried_as, low_is, want_is}
-use Rattle.judge_totals.specs.Totals.{Unnoted, CordsJudged, merged}
-use Rattle.judge_totals.proofs.Searching.{searching_stop, searching_end}
-use Rattle.judge_totals.proofs.Noting.{CordTurns, cords_start, cords_next, cords-end, above-end}
+use Rattle.judge_totals.specs.Totals.{Unnoted, CordsJudged, noted_on}
+use Rattle.judge_totals.specs.declared.Notes.{Notes}
+use Rattle.judge_totals.proofs.Noted.{Sized}
+use Rattle.judge_totals.proofs.Searching.{is_first}
+use Rattle.judge_totals.proofs.Noting.{CordTurns, AboveNext, cords_start, cords_next, cords-end}
 
 -- The walk stands before the server at place v, whose cords stand from place `first` on; the cords before place c had their turns.
-pub record Walking (table demands grants : List ℕ) (scale gn rn wn v start first c above : ℕ) (given raised wanting : List ℕ) : Type 0 where
+pub record Walking (table demands grants : List ℕ) (scale v start first c : ℕ) (above : Option ℕ) (notes : Notes) : Type 0 where
   pub room : Room
   pub end : ℕ
   pub read : checked table 0 ≡ good room end
   pub scale_is : scale ≡ room.scale
   pub demands_size : length demands ≡ length room.servers
   pub grants_size : length grants ≡ room_cords room
-  pub given_long : most_nodes ≤ gn
-  pub raised_long : gn ≤ rn
-  pub wanting_long : gn ≤ wn
   pub walk : Walk table room v start first
-  pub turns : CordTurns (nodes_of room) (levels_of room) (lows_of room) (first_wants room demands) grants gn rn wn c above given raised wanting
+  pub turns : CordTurns (nodes_of room) (levels_of room) (lows_of room) (first_wants room demands) grants c above notes
 
 -- Within that server, of which these figures are read: the words of the cord at place c start at index `word`.
-pub record WalkingServer (table demands grants : List ℕ) (scale gn rn wn v start first rank least need count c word above : ℕ) (given raised wanting : List ℕ) : Type 0 where
-  pub walking : Walking table demands grants scale gn rn wn v start first c above given raised wanting
+pub record WalkingServer (table demands grants : List ℕ) (scale v start first rank least need count c word : ℕ) (above : Option ℕ) (notes : Notes) : Type 0 where
+  pub walking : Walking table demands grants scale v start first c above notes
   pub more : v < length demands
   pub rank_is : rank ≡ at table start
   pub least_is : least ≡ at table (start + 1)
@@ -52,40 +51,25 @@ pub record WalkingServer (table demands grants : List ℕ) (scale gn rn wn v sta
   pub to : c ≤ first + count
   pub next : word + 2 * first ≡ start + 4 + 2 * c
 
--- The lengths may have other names.
-module _ {table demands grants : List ℕ} {scale gn rn wn gn' rn' wn' : ℕ} (g : gn' ≡ gn) (w : rn' ≡ rn) (h : wn' ≡ wn) where
-  pub walking_sized : {v start first c above : ℕ} {given raised wanting : List ℕ} → Walking table demands grants scale gn rn wn v start first c above given raised wanting
-      → Walking table demands grants scale gn' rn' wn' v start first c above given raised wanting
-  walking_sized walking = rw (g, w, h) walking
-
-  pub server_sized : {v start first rank least need count c word above : ℕ} {given raised wanting : List ℕ}
-      → WalkingServer table demands grants scale gn rn wn v start first rank least need count c word above given raised wanting
-      → WalkingServer table demands grants scale gn' rn' wn' v start first rank least need count c word above given raised wanting
-  server_sized server = rw (g, w, h) server
-
 walk_to : {table : List ℕ} {r : Room} {v i j c d : ℕ} → i ≡ j → c ≡ d → Walk table r v j d → Walk table r v i c
 walk_to e f walk = rw (e, f) walk
 
-pub walking_start : {table demands grants : List ℕ} {scale : ℕ} {given raised wanting : List ℕ} (g : Good (checked table 0)) → ScaleIs table scale
-    → ServersFit table (length demands) → CordsFit table (length grants) → most_nodes ≤ length given → length given ≤ length raised → length given ≤ length wanting
-    → ((n : ℕ) → at given n ≡ 0) → Unnoted (length given) given raised wanting → {start : ℕ} → start ≡ servers_index table + 1
-    → Walking table demands grants scale (length given) (length raised) (length wanting) 0 start 0 0 0 given raised wanting
-walking_start g si sf cf lg lr lw zeros none e = record {
+pub walking_start : {table demands grants : List ℕ} {scale : ℕ} {notes : Notes} (g : Good (checked table 0)) → ScaleIs table scale
+    → ServersFit table (length demands) → CordsFit table (length grants) → Sized notes → ((n : ℕ) → at notes.given n ≡ 0) → Unnoted most_nodes notes
+    → {start : ℕ} → start ≡ servers_index table + 1 → Walking table demands grants scale 0 start 0 0 None notes
+walking_start g si sf cf size zeros none e = record {
   room = g.value;
   end = g.next;
   read = g.is;
   scale_is = si g.value g.next g.is;
   demands_size = sf g.value g.next g.is;
   grants_size = cf g.value g.next g.is;
-  given_long = lg;
-  raised_long = lr;
-  wanting_long = lw;
   walk = walk_to e refl (walk_start g.is);
-  turns = cords_start zeros none;
+  turns = cords_start size zeros none;
 }
 
-module _ {table demands grants : List ℕ} {scale gn rn wn v start first c above : ℕ} {given raised wanting : List ℕ}
-    (walking : Walking table demands grants scale gn rn wn v start first c above given raised wanting) where
+module _ {table demands grants : List ℕ} {scale v start first c : ℕ} {above : Option ℕ} {notes : Notes}
+    (walking : Walking table demands grants scale v start first c above notes) where
   ok : Accepted walking.room
   ok = accepted table walking.room walking.end walking.read
 
@@ -100,7 +84,7 @@ module _ {table demands grants : List ℕ} {scale gn rn wn v start first c above
 
   pub server_begin : (more : v < length demands) → {rank least need count : ℕ} → rank ≡ at table start → least ≡ at table (start + 1)
       → need ≡ min (max (at demands v) (at table (start + 1))) (at table (start + 2)) → count ≡ at table (start + 3) → c ≡ first
-      → WalkingServer table demands grants scale gn rn wn v start first rank least need count c (start + 4) above given raised wanting
+      → WalkingServer table demands grants scale v start first rank least need count c (start + 4) above notes
   server_begin more er el en ec e = record {
     walking = walking;
     more = more;
@@ -115,21 +99,21 @@ module _ {table demands grants : List ℕ} {scale gn rn wn v start first c above
 
   -- All servers are passed.
   pub judged-all : length demands ≤ v → c ≡ first → (r : Room) (end : ℕ) → checked table 0 ≡ good r end
-      → CordsJudged r demands grants gn (record { below = 0; above = above }) given raised wanting
+      → CordsJudged r demands grants (record { below = None; above = above }) notes
   judged-all h e r end is =
       let read = walking.read in
       let same : walking.room ≡ r = cc in
       let sizes = nodes_of-length walking.room in
-      let all : length (nodes_of walking.room) ≤ c = omega (arith, walk_end walking.walk (omega (arith, walking.demands_size)), sizes) in
+      let all : c ≡ room_cords walking.room = e ∙ walk_end walking.walk (omega (arith, walking.demands_size)) in
       rw (← same)
       (record {
-        below_is = searching_end walking.turns.below all ∙ ap (λ (k : ℕ). first_node k 0 (below_low walking.room grants)) sizes;
-        above_is = λ z. above-end walking.turns all ∙ ap (λ (k : ℕ). first_node k 0 (λ h. ltb (at (first_wants walking.room demands) h) (at grants h))) sizes;
-        noted = λ z y. cords-end walking.turns all y;
+        below_is = is_first (below_low walking.room grants) (room_cords walking.room) None (rw all at walking.turns.below);
+        above_is = λ z. is_first (above_want walking.room demands grants) (room_cords walking.room) above (rw all at walking.turns.first_above);
+        noted = λ z y. cords-end walking.turns (sizes ∙ sym all) y;
       })
 
 -- What code relies on at a cord.
-pub record CordFits (table grants : List ℕ) (scale least need c word : ℕ) (given raised wanting : List ℕ) : Type 0 where
+pub record CordFits (table grants : List ℕ) (scale least need c word : ℕ) (notes : Notes) : Type 0 where
   pub there : word + 1 < length table
   pub few : c < most_cords
   pub in_grants : c < length grants
@@ -137,14 +121,12 @@ pub record CordFits (table grants : List ℕ) (scale least need c word : ℕ) (g
   pub share_most : at table (word + 1) ≤ scale
   pub least_most : least ≤ most_watts
   pub need_most : need ≤ most_watts
-  pub in_given : at table word ≤ length given
-  pub in_raised : at table word ≤ length raised
-  pub in_wanting : at table word ≤ length wanting
-  pub small : (n : ℕ) → at given n < 2 ^ 63
+  pub node_most : at table word ≤ most_nodes
+  pub small : (n : ℕ) → at notes.given n < 2 ^ 63
 
-module _ {table demands grants : List ℕ} {scale gn rn wn v start first rank least need count c word above : ℕ} {given raised wanting : List ℕ}
-    (server : WalkingServer table demands grants scale gn rn wn v start first rank least need count c word above given raised wanting) where
-  abbrev walking : Walking table demands grants scale gn rn wn v start first c above given raised wanting
+module _ {table demands grants : List ℕ} {scale v start first rank least need count c word : ℕ} {above : Option ℕ} {notes : Notes}
+    (server : WalkingServer table demands grants scale v start first rank least need count c word above notes) where
+  abbrev walking : Walking table demands grants scale v start first c above notes
   walking = server.walking
 
   abbrev r : Room
@@ -154,7 +136,7 @@ module _ {table demands grants : List ℕ} {scale gn rn wn v start first rank le
   standing = walking_server walking server.more
 
   -- The server is passed, after its cords.
-  pub server-end : first + count ≤ c → Walking table demands grants scale gn rn wn (v + 1) word (first + count) (first + count) above given raised wanting
+  pub server-end : first + count ≤ c → Walking table demands grants scale (v + 1) word (first + count) (first + count) above notes
   server-end h =
       let all : first + count ≡ c = omega (arith, server.to) in
       let w : word ≡ start + (4 + 2 * at table (start + 3)) = omega (arith, server.counted, server.next) in
@@ -165,9 +147,6 @@ module _ {table demands grants : List ℕ} {scale gn rn wn v start first rank le
         scale_is = walking.scale_is;
         demands_size = walking.demands_size;
         grants_size = walking.grants_size;
-        given_long = walking.given_long;
-        raised_long = walking.raised_long;
-        wanting_long = walking.wanting_long;
         walk = walk_to w (ap (λ (k : ℕ). first + k) server.counted) standing.next;
         turns = rw all walking.turns;
       }
@@ -182,7 +161,7 @@ module _ {table demands grants : List ℕ} {scale gn rn wn v start first rank le
     in_nodes : c < length (nodes_of r)
     in_nodes = omega (arith, within, nodes_of-length r)
 
-    pub cord_fits : CordFits table grants scale least need c word given raised wanting
+    pub cord_fits : CordFits table grants scale least need c word notes
     cord_fits =
         let node = cord.node_most in
         let share = cord.share_most in
@@ -196,9 +175,7 @@ module _ {table demands grants : List ℕ} {scale gn rn wn v start first rank le
           share_most = omega (arith, share, walking.scale_is);
           least_most = omega (arith, server.least_is, standing.ordered, standing.most);
           need_most = omega (arith, server.need_is, standing.most);
-          in_given = omega (arith, node, few, walking.given_long, turns.given_size);
-          in_raised = omega (arith, node, few, walking.given_long, walking.raised_long, turns.raised_size);
-          in_wanting = omega (arith, node, few, walking.given_long, walking.wanting_long, turns.wanting_size);
+          node_most = omega (arith, node, few);
           small = λ n. omega (arith, turns.small n, within, (ok walking).few_cords);
         }
 
@@ -222,34 +199,38 @@ module _ {table demands grants : List ℕ} {scale gn rn wn v start first rank le
     -- It has less than its low.
     pub judged_below : {low : ℕ} → low ≡ carried scale (at table (word + 1)) least → at grants c < low
         → (q : Room) (end : ℕ) → checked table 0 ≡ good q end
-        → CordsJudged q demands grants gn (record { below = c + 1; above = above }) given raised wanting
+        → CordsJudged q demands grants (record { below = Some c; above = above }) notes
     judged_below e h q end read' =
         let read = walking.read in
         let same : r ≡ q = cc in
         rw (← same)
         (record {
-          below_is = searching_stop walking.turns.below in_nodes (lt-ltb (at grants c) (at (lows_of r) c) (omega (arith, low-at)))
-              ∙ ap (λ (k : ℕ). first_node k 0 (below_low r grants)) (nodes_of-length r);
-          above_is = λ z. absurd (omega arith);
-          noted = λ z y. absurd (omega arith);
+          below_is = is_first (below_low r grants) (room_cords r) (Some c)
+              (record {
+                from = zero-le;
+                within = omega (arith, within);
+                holds = lt-ltb (at grants c) (at (lows_of r) c) (omega (arith, low-at));
+                before = walking.turns.below;
+              });
+          above_is = λ z. absurd (let f : Some c ≡ None = z in cc);
+          noted = λ z y. absurd (let f : Some c ≡ None = z in cc);
         })
 
     -- One cord more.
-    pub server-cord : {node low want grant above' : ℕ} {given' raised' wanting' : List ℕ} → node ≡ at table word → low ≡ carried scale (at table (word + 1)) least
+    pub server-cord : {node low want grant : ℕ} {above' : Option ℕ} {notes' : Notes} → node ≡ at table word → low ≡ carried scale (at table (word + 1)) least
         → want ≡ carried scale (at table (word + 1)) need → grant ≡ at grants c → low ≤ grant → grant - low < 2 ^ 32
-        → above' ≡ cond (ltb 0 above) above (cond (ltb want grant) (suc c) 0)
-        → given' ≡ credited node (grant - low) given → raised' ≡ merged min node (cond (ltb low grant) rank highest_rank) raised
-        → wanting' ≡ merged max node (cond (ltb grant want) rank 0) wanting
-        → WalkingServer table demands grants scale gn rn wn v start first rank least need count (c + 1) (word + 2) above' given' raised' wanting'
-    server-cord {node} {low} {want} {grant} {above'} {given'} {raised'} {wanting'} en el ew eg le lt ea e1 e2 e3 =
+        → AboveNext above want grant c above'
+        → notes' ≡ noted_on node (grant - low) (cond (ltb low grant) rank highest_rank) (cond (ltb grant want) rank 0) notes
+        → WalkingServer table demands grants scale v start first rank least need count (c + 1) (word + 2) above' notes'
+    server-cord {node} {low} {want} {grant} {above'} {notes'} en el ew eg le lt turned e =
         let fits = cord_fits in
         let turns = walking.turns in
         let en' : node ≡ at (nodes_of r) c = en ∙ sym node_is in
         let el' : low ≡ at (lows_of r) c = el ∙ sym low-at in
         let ew' : want ≡ at (first_wants r demands) c = ew ∙ sym want_at in
-        let next : CordTurns (nodes_of r) (levels_of r) (lows_of r) (first_wants r demands) grants gn rn wn (c + 1) above' given' raised' wanting'
-        = cords_next turns in_nodes ranked (omega (arith, el', eg, le)) (omega (arith, node_is, fits.in_given, turns.given_size)) walking.raised_long walking.wanting_long
-        (omega (arith, el', eg, lt)) en' rank_at el' ew' eg ea e1 e2 e3 in
+        let next : CordTurns (nodes_of r) (levels_of r) (lows_of r) (first_wants r demands) grants (c + 1) above' notes'
+        = cords_next turns in_nodes ranked (omega (arith, el', eg, le)) (omega (arith, node_is, fits.node_most))
+        (omega (arith, el', eg, lt)) en' rank_at el' ew' eg turned e in
         record {
           walking = record {
             room = r;
@@ -258,9 +239,6 @@ module _ {table demands grants : List ℕ} {scale gn rn wn v start first rank le
             scale_is = walking.scale_is;
             demands_size = walking.demands_size;
             grants_size = walking.grants_size;
-            given_long = walking.given_long;
-            raised_long = walking.raised_long;
-            wanting_long = walking.wanting_long;
             walk = walking.walk;
             turns = next;
           };

@@ -1,16 +1,23 @@
 -- Totals over the trees of a room, by lists: what the contracts of `judge_totals` cite. Nodes and cords stand at their places; a parent,
 -- and a cord's node, is a number: a place plus one, or 0 for none.
-use Rattle.std.specs.Prelude.{◌≡◌, Bool, cond, List, ℕ, zero, suc, ◌+◌, ◌-◌, ◌≤◌, ◌<◌, min, eqb, leb, ltb, length, set}
+use Rattle.std.specs.Prelude.{◌≡◌, Bool, cond, List, ℕ, zero, suc, ◌+◌, ◌-◌, ◌≤◌, ◌<◌, min, max, eqb, leb, ltb, length, set, Option, None, Some}
+use Rattle.figures.specs.Credits.{credited}
 use Rattle.figures.specs.Figures.{at}
 use Rattle.figures.specs.Sums.{on, sum}
-use Rattle.rooms.specs.Table.{Room, most_cords, most_watts, highest_rank, room_cords}
+use Rattle.rooms.specs.Table.{Room, most_nodes, most_cords, most_watts, highest_rank, room_cords}
 use Rattle.rooms.specs.Limits.{first_node}
 use Rattle.rooms.specs.Credits.{tree_sum}
 use Rattle.rooms.specs.Lists.{nodes_of, levels_of, lows_of}
 use Rattle.deals.specs.Wants.{first_wants}
 use Rattle.deals.specs.Judge.{highest, below_low, above_want}
 use Rattle.judge_totals.specs.declared.Faults.{Faults}
+use Rattle.judge_totals.specs.declared.Notes.{Notes}
 use Rattle.rooms.specs.Trees.{sum_beneath}
+
+-- The place that a number tells: none for 0.
+abbrev pub place_of : ℕ → Option ℕ
+place_of zero = None
+place_of (suc place) = Some place
 
 -- ---- The lists
 
@@ -55,31 +62,36 @@ pub record Noted (given most : ℕ → ℕ) (watts raised wanting : ℕ) : Type 
   pub less : (j : ℕ) → wanting ≡ suc j → given j < most j
 
 -- It is noted of each of so many nodes.
-abbrev pub AllNoted : ℕ → (given most : ℕ → ℕ → ℕ) → (watts raised wanting : List ℕ) → Type 0
-AllNoted count given most watts raised wanting =
-    (n : ℕ) → n < count → Noted (λ j. given j n) (λ j. most j n) (at watts n) (at raised n) (at wanting n)
+abbrev pub AllNoted : ℕ → (given most : ℕ → ℕ → ℕ) → Notes → Type 0
+AllNoted count given most notes =
+    (n : ℕ) → n < count → Noted (λ j. given j n) (λ j. most j n) (at notes.given n) (at notes.raised n) (at notes.wanting n)
 
 -- Nothing is noted of any.
-abbrev pub Unnoted : ℕ → (watts raised wanting : List ℕ) → Type 0
+abbrev pub Unnoted : ℕ → Notes → Type 0
 Unnoted count = AllNoted count (λ j n. 0) (λ j n. 0)
 
 -- The cords' own notes on their nodes.
-abbrev pub CordsNoted : ℕ → (nodes levels lows wants grants watts raised wanting : List ℕ) → Type 0
-CordsNoted count nodes levels lows wants grants =
-    AllNoted count (λ j. on_node nodes (from_level levels j (over_low lows grants))) (λ j. on_node nodes (from_level levels j (over_low lows wants)))
+abbrev pub CordsNoted : (nodes levels lows wants grants : List ℕ) → Notes → Type 0
+CordsNoted nodes levels lows wants grants =
+    AllNoted most_nodes (λ j. on_node nodes (from_level levels j (over_low lows grants))) (λ j. on_node nodes (from_level levels j (over_low lows wants)))
 
 -- What the pass over a room's cords finds and leaves: the first cord below its low; if there is none, the first above its want; and if
 -- there is none either, the notes of all.
-pub record CordsJudged (r : Room) (demands grants : List ℕ) (count : ℕ) (faults : Faults) (watts raised wanting : List ℕ) : Type 0 where
-  pub below_is : faults.below ≡ first_node (room_cords r) 0 (below_low r grants)
-  pub above_is : faults.below ≡ 0 → faults.above ≡ first_node (room_cords r) 0 (above_want r demands grants)
-  pub noted : faults.below ≡ 0 → faults.above ≡ 0
-      → CordsNoted count (nodes_of r) (levels_of r) (lows_of r) (first_wants r demands) grants watts raised wanting
+pub record CordsJudged (r : Room) (demands grants : List ℕ) (faults : Faults) (notes : Notes) : Type 0 where
+  pub below_is : faults.below ≡ place_of (first_node (room_cords r) 0 (below_low r grants))
+  pub above_is : faults.below ≡ None → faults.above ≡ place_of (first_node (room_cords r) 0 (above_want r demands grants))
+  pub noted : faults.below ≡ None → faults.above ≡ None
+      → CordsNoted (nodes_of r) (levels_of r) (lows_of r) (first_wants r demands) grants notes
 
 -- A rank merged with the one that stands on a node, by the node's number; 0 is no node.
 unfoldable pub merged : (ℕ → ℕ → ℕ) → ℕ → ℕ → List ℕ → List ℕ
 merged with zero rank l = l
 merged with (suc m) rank l = set l m (with (at l m) rank)
+
+-- The notes with watts, the lowest rank that they are of and the highest rank that could have more, noted on a node by its number.
+abbrev pub noted_on : (node watts low high : ℕ) → Notes → Notes
+noted_on node watts low high notes =
+    record { given = credited node watts notes.given; raised = merged min node low notes.raised; wanting = merged max node high notes.wanting }
 
 -- The highest rank that could have more, with the node's limit.
 abbrev pub held_back : ℕ → ℕ → ℕ → ℕ → ℕ
@@ -96,11 +108,11 @@ IsMost parents spare own most =
 
 -- What the pass over the nodes leaves, where no node is given more than it has to spare: of the notes of the nodes' own cords, whatever
 -- these are, those of all that is beneath each node.
-abbrev pub NodesNoted : (parents spare : List ℕ) (over : ℕ) (watts raised wanting watts' raised' wanting' : List ℕ) → Type 0
-NodesNoted parents spare over watts raised wanting watts' raised' wanting' =
-    (given own most : ℕ → ℕ → ℕ) → AllNoted (length parents) given own watts raised wanting
-    → ((j : ℕ) → j < highest_rank → IsMost parents spare (own j) (most j)) → over ≡ 0
-    → AllNoted (length parents) (λ j. tree_sum (at parents) (length parents) (given j)) most watts' raised' wanting'
+abbrev pub NodesNoted : (parents spare : List ℕ) (over : Option ℕ) (notes notes' : Notes) → Type 0
+NodesNoted parents spare over notes notes' =
+    (given own most : ℕ → ℕ → ℕ) → AllNoted (length parents) given own notes
+    → ((j : ℕ) → j < highest_rank → IsMost parents spare (own j) (most j)) → over ≡ None
+    → AllNoted (length parents) (λ j. tree_sum (at parents) (length parents) (given j)) most notes'
 
 -- What the cords of a level and above, beneath the node at place n, have over their lows.
 unfoldable pub over_from : (parents nodes levels lows watts : List ℕ) → ℕ → ℕ → ℕ
@@ -116,9 +128,9 @@ IsMostFrom parents spare nodes levels lows wants most =
 abbrev pub less_than : (parents nodes levels lows grants : List ℕ) → (ℕ → ℕ → ℕ) → ℕ → ℕ → Bool
 less_than parents nodes levels lows grants most n rank = ltb (over_from parents nodes levels lows grants (rank - 1) n) (most (rank - 1) n)
 
--- What the passes come to: the lowest node that is given more than it has to spare, 0 if there is none; and, if there is none, each node's
--- mark, the highest rank at which it has less than the most.
-pub record Compared (parents spare nodes levels lows wants grants : List ℕ) (over : ℕ) (short : List ℕ) : Type 0 where
-  pub over_is : over ≡ first_node (length parents) 0 (λ n. ltb (at spare n) (over_from parents nodes levels lows grants 0 n))
-  pub short_is : (most : ℕ → ℕ → ℕ) → IsMostFrom parents spare nodes levels lows wants most → over ≡ 0
+-- What the passes come to: the lowest node that is given more than it has to spare; and, if there is none, each node's mark, the highest
+-- rank at which it has less than the most.
+pub record Compared (parents spare nodes levels lows wants grants : List ℕ) (over : Option ℕ) (short : List ℕ) : Type 0 where
+  pub over_is : over ≡ place_of (first_node (length parents) 0 (λ n. ltb (at spare n) (over_from parents nodes levels lows grants 0 n)))
+  pub short_is : (most : ℕ → ℕ → ℕ) → IsMostFrom parents spare nodes levels lows wants most → over ≡ None
       → (n : ℕ) → n < length parents → at short n ≡ highest (less_than parents nodes levels lows grants most n) highest_rank

@@ -1,20 +1,25 @@
--- `lowest_marked` meets its contract: the nodes still to be searched decide at every turn (`Searching`).
-use mathlib.Core.Path.{sym, ◌∙◌}
+-- `lowest_marked` meets its contract: a root with a mark is the first, or there is none.
+use mathlib.Core.Path.{refl}
+use mathlib.Core.Bool.{Bool, ◌&&◌}
+use Prim.Native.Nat.{ℕ, zero-le}
 use native.Mathlib.Omega.{arith}
-use Rattle.judge_totals.proofs.Searching.{searching_start, searching_stop, searching_next, searching_end}
+use lib.Dec.{eqb, ltb}
+use lib.ListN.{length}
+use borrow.Author.Tests.{eq-eqb, lt-ltb}
+use Rattle.std.specs.Prelude.{None, Some}
+use Rattle.figures.specs.Figures.{at}
+use Rattle.judge_totals.proofs.Searching.{is_first}
 use Rattle.judge_totals.proofs.lowest_marked.Goals as goal
 
-pub loop-n-init : goal.loop-n-init
-loop-n-init c = searching_start _ _
-
-pub bounds-short-n : goal.bounds-short-n
-bounds-short-n c = omega (arith, c.loop-n-test.true, c.requires.lengths)
-
-pub returns-then-is_short : goal.returns-then-is_short
-returns-then-is_short c = record { result = searching_stop c.loop-n.invariant c.loop-n-test.true (sym c.is_short.ensures.result ∙ c.if-is_short.true) }
-
-pub loop-n-preserved : goal.loop-n-preserved
-loop-n-preserved c = searching_next c.loop-n.invariant c.loop-n-test.true (sym c.is_short.ensures.result ∙ c.if-is_short.false)
+pub returns-then-marks-n-gt0 : goal.returns-then-marks-n-gt0
+returns-then-marks-n-gt0 c =
+    let test : ℕ → Bool = λ n. eqb (at c.args.parents.now n) 0 && ltb 0 (at c.args.marks.now n) in
+    record {
+      result = is_first test (length c.args.parents.now) (Some c.loop-n.n)
+          (record { from = zero-le; within = omega arith; holds = rw (eq-eqb _ _ c.if-parent-eq0.true, lt-ltb _ _ c.if-marks-n-gt0.true) refl; before = c.loop-n.invariant });
+    }
 
 pub returns : goal.returns
-returns c = record { result = searching_end c.loop-n.invariant c.loop-n-test.false }
+returns c =
+    let test : ℕ → Bool = λ n. eqb (at c.args.parents.now n) 0 && ltb 0 (at c.args.marks.now n) in
+    record { result = is_first test (length c.args.parents.now) None (λ m a b. c.loop-n.invariant m a (omega arith)) }

@@ -1,131 +1,37 @@
 -- `note_nodes` meets its contract: when a node has its turn, all nodes beneath it had theirs, so that its notes are whole.
-use mathlib.Core.Path.{refl}
+use mathlib.Core.Path.{◌≡◌}
+use mathlib.Core.Bool.{cond}
 use Prim.Native.Nat.{◌-◌, ◌<◌}
 use native.Mathlib.Omega.{arith}
-use lib.ListN.{length, length-set}
-use Rattle.rooms.proofs.Gather.{gathered_end, gathered_most}
+use lib.Dec.{ltb}
+use lib.ListN.{length}
+use borrow.Author.Tests.{lt-ltb, le-ltb}
+use Rattle.std.specs.Prelude.{Some}
+use Rattle.figures.specs.Figures.{at}
+use Rattle.rooms.proofs.Gather.{gathered_most}
+use Rattle.judge_totals.proofs.Noted.{Sized}
 use Rattle.judge_totals.proofs.Noting.{nodes_start, nodes_next, nodes-end}
 use Rattle.judge_totals.proofs.note_nodes.Goals as goal
+use Rattle.judge_totals.proofs.note_nodes.Goals.{then-limit-has, else-limit-has}
 
 pub loop-n-init : goal.loop-n-init
-loop-n-init c = nodes_start _ _ _ _ _
+loop-n-init c = nodes_start _ _ (record { given = omega arith; raised = omega arith; wanting = omega arith })
 
-pub bounds-spare-n : goal.bounds-spare-n
-bounds-spare-n c =
-    let there : (c.loop-n.n - 1 < length c.args.parents.now) × (c.loop-n.n - 1 < length c.args.spare.now) × (c.loop-n.n - 1 < length c.loop-n.given) × (c.loop-n.n - 1 < length c.loop-n.raised) × (c.loop-n.n - 1 < length c.loop-n.wanting) = let here : c.loop-n.n - 1 < length c.args.parents.now = omega (arith, c.loop-n.invariant.all, c.loop-n-test.true) in (
-      here,
-      omega (arith, here, c.requires.node_lists.limits_size),
-      omega (arith, here, c.loop-n.invariant.gathered.size, c.requires.lengths.0),
-      omega (arith, here, c.loop-n.invariant.raised_size, c.requires.lengths.1),
-      omega (arith, here, c.loop-n.invariant.wanting_size, c.requires.lengths.2),
-    ) in
-    there.1
-
-pub bounds-given-n : goal.bounds-given-n
-bounds-given-n c =
-    let there : (c.loop-n.n - 1 < length c.args.parents.now) × (c.loop-n.n - 1 < length c.args.spare.now) × (c.loop-n.n - 1 < length c.loop-n.given) × (c.loop-n.n - 1 < length c.loop-n.raised) × (c.loop-n.n - 1 < length c.loop-n.wanting) = let here : c.loop-n.n - 1 < length c.args.parents.now = omega (arith, c.loop-n.invariant.all, c.loop-n-test.true) in (
-      here,
-      omega (arith, here, c.requires.node_lists.limits_size),
-      omega (arith, here, c.loop-n.invariant.gathered.size, c.requires.lengths.0),
-      omega (arith, here, c.loop-n.invariant.raised_size, c.requires.lengths.1),
-      omega (arith, here, c.loop-n.invariant.wanting_size, c.requires.lengths.2),
-    ) in
-    there.2
-
-pub bounds-raised-n : goal.bounds-raised-n
-bounds-raised-n c =
-    let there : (c.loop-n.n - 1 < length c.args.parents.now) × (c.loop-n.n - 1 < length c.args.spare.now) × (c.loop-n.n - 1 < length c.loop-n.given) × (c.loop-n.n - 1 < length c.loop-n.raised) × (c.loop-n.n - 1 < length c.loop-n.wanting) = let here : c.loop-n.n - 1 < length c.args.parents.now = omega (arith, c.loop-n.invariant.all, c.loop-n-test.true) in (
-      here,
-      omega (arith, here, c.requires.node_lists.limits_size),
-      omega (arith, here, c.loop-n.invariant.gathered.size, c.requires.lengths.0),
-      omega (arith, here, c.loop-n.invariant.raised_size, c.requires.lengths.1),
-      omega (arith, here, c.loop-n.invariant.wanting_size, c.requires.lengths.2),
-    ) in
-    there.3
-
-pub bounds-wanting-n : goal.bounds-wanting-n
-bounds-wanting-n c =
-    let there : (c.loop-n.n - 1 < length c.args.parents.now) × (c.loop-n.n - 1 < length c.args.spare.now) × (c.loop-n.n - 1 < length c.loop-n.given) × (c.loop-n.n - 1 < length c.loop-n.raised) × (c.loop-n.n - 1 < length c.loop-n.wanting) = let here : c.loop-n.n - 1 < length c.args.parents.now = omega (arith, c.loop-n.invariant.all, c.loop-n-test.true) in (
-      here,
-      omega (arith, here, c.requires.node_lists.limits_size),
-      omega (arith, here, c.loop-n.invariant.gathered.size, c.requires.lengths.0),
-      omega (arith, here, c.loop-n.invariant.raised_size, c.requires.lengths.1),
-      omega (arith, here, c.loop-n.invariant.wanting_size, c.requires.lengths.2),
-    ) in
-    there.4
-
-pub noted-over-requires : goal.noted-over-requires
-noted-over-requires c =
-    let there : (c.loop-n.n - 1 < length c.args.parents.now) × (c.loop-n.n - 1 < length c.args.spare.now) × (c.loop-n.n - 1 < length c.loop-n.given) × (c.loop-n.n - 1 < length c.loop-n.raised) × (c.loop-n.n - 1 < length c.loop-n.wanting) = let here : c.loop-n.n - 1 < length c.args.parents.now = omega (arith, c.loop-n.invariant.all, c.loop-n-test.true) in (
-      here,
-      omega (arith, here, c.requires.node_lists.limits_size),
-      omega (arith, here, c.loop-n.invariant.gathered.size, c.requires.lengths.0),
-      omega (arith, here, c.loop-n.invariant.raised_size, c.requires.lengths.1),
-      omega (arith, here, c.loop-n.invariant.wanting_size, c.requires.lengths.2),
-    ) in
-    record { place = omega (arith, there.0, c.requires.node_lists.few) }
-
-pub bounds-wanting-n-in-loop-n : goal.bounds-wanting-n-in-loop-n
-bounds-wanting-n-in-loop-n c =
-    let there : (c.loop-n.n - 1 < length c.args.parents.now) × (c.loop-n.n - 1 < length c.args.spare.now) × (c.loop-n.n - 1 < length c.loop-n.given) × (c.loop-n.n - 1 < length c.loop-n.raised) × (c.loop-n.n - 1 < length c.loop-n.wanting) = let here : c.loop-n.n - 1 < length c.args.parents.now = omega (arith, c.loop-n.invariant.all, c.loop-n-test.true) in (
-      here,
-      omega (arith, here, c.requires.node_lists.limits_size),
-      omega (arith, here, c.loop-n.invariant.gathered.size, c.requires.lengths.0),
-      omega (arith, here, c.loop-n.invariant.raised_size, c.requires.lengths.1),
-      omega (arith, here, c.loop-n.invariant.wanting_size, c.requires.lengths.2),
-    ) in
-    there.4
-
-pub bounds-parents-n : goal.bounds-parents-n
-bounds-parents-n c =
-    let there : (c.loop-n.n - 1 < length c.args.parents.now) × (c.loop-n.n - 1 < length c.args.spare.now) × (c.loop-n.n - 1 < length c.loop-n.given) × (c.loop-n.n - 1 < length c.loop-n.raised) × (c.loop-n.n - 1 < length c.loop-n.wanting) = let here : c.loop-n.n - 1 < length c.args.parents.now = omega (arith, c.loop-n.invariant.all, c.loop-n-test.true) in (
-      here,
-      omega (arith, here, c.requires.node_lists.limits_size),
-      omega (arith, here, c.loop-n.invariant.gathered.size, c.requires.lengths.0),
-      omega (arith, here, c.loop-n.invariant.raised_size, c.requires.lengths.1),
-      omega (arith, here, c.loop-n.invariant.wanting_size, c.requires.lengths.2),
-    ) in
-    there.0
-
-pub note-requires : goal.note-requires
-note-requires c =
-    let there : (c.loop-n.n - 1 < length c.args.parents.now) × (c.loop-n.n - 1 < length c.args.spare.now) × (c.loop-n.n - 1 < length c.loop-n.given) × (c.loop-n.n - 1 < length c.loop-n.raised) × (c.loop-n.n - 1 < length c.loop-n.wanting) = let here : c.loop-n.n - 1 < length c.args.parents.now = omega (arith, c.loop-n.invariant.all, c.loop-n-test.true) in (
-      here,
-      omega (arith, here, c.requires.node_lists.limits_size),
-      omega (arith, here, c.loop-n.invariant.gathered.size, c.requires.lengths.0),
-      omega (arith, here, c.loop-n.invariant.raised_size, c.requires.lengths.1),
-      omega (arith, here, c.loop-n.invariant.wanting_size, c.requires.lengths.2),
-    ) in
-    let here = there.0 in
+pub note-requires-clause-sum_fits : goal.note-requires-clause-sum_fits
+note-requires-clause-sum_fits c =
+    let here : c.loop-n.n - 1 < length c.args.parents.now = omega (arith, c.loop-n.invariant.all) in
     let rise = c.requires.node_lists.rises (c.loop-n.n - 1) here in
     let most = gathered_most c.requires.node_lists.rises c.loop-n.invariant.gathered in
-    record {
-      node = (
-        omega (arith, c.index.ensures.result.0, rise, here, c.loop-n.invariant.gathered.size, c.requires.lengths.0),
-        omega (arith, c.index.ensures.result.0, rise, here, c.loop-n.invariant.raised_size, c.requires.lengths.1),
-        omega (arith, c.index.ensures.result.0, rise, here, c.loop-n.invariant.wanting_size, c.requires.lengths.2, length-set c.loop-n.wanting (c.loop-n.n - 1) c.held_back-high.result),
-      );
-      sum_fits = omega (arith, most (c.loop-n.n - 1) here, most (c.index.result - 1) (omega (arith, c.index.ensures.result.0, rise, here)), c.requires.sums_fit);
-    }
+    omega (arith, most (c.loop-n.n - 1) here, most (c.from.result - 1) (omega (arith, rise, here, c.from.ensures)), c.requires.sums_fit)
 
 pub loop-n-preserved : goal.loop-n-preserved
 loop-n-preserved c =
-    nodes_next c.requires.node_lists c.requires.lengths.0 c.requires.lengths.1 c.requires.lengths.2 c.loop-n.invariant c.loop-n-test.true
-    c.wide-limit.ensures.result.0 refl refl c.index.ensures.result.0 c.held_back-high.ensures.result c.noted-over.ensures.result
-    c.note.ensures.noted.0 c.note.ensures.noted.1 c.note.ensures.noted.2
+    let sized : Sized c.args.notes.now = record { given = omega arith; raised = omega arith; wanting = omega arith } in
+    let number_found : c.if-limit-has.over ≡ cond (ltb c.from-limit.result (at c.loop-n.notes.given (c.loop-n.n - 1))) (Some (c.loop-n.n - 1)) c.loop-n.over = elim c.if-limit-has.branch [
+      | then-limit-has w ↦ rw (lt-ltb _ _ w.if-limit-has.true) w.over-is
+      | else-limit-has w ↦ rw (le-ltb _ _ w.if-limit-has.false) w.over-is
+    ] in
+    nodes_next c.requires.node_lists sized c.loop-n.invariant c.loop-n-test.true c.from-limit.ensures c.from.ensures c.held_back-high.ensures.result number_found c.note.ensures.noted
 
-pub shape_of-given : goal.shape_of-given
-shape_of-given c = c.loop-n.invariant.gathered.size
-
-pub shape_of-raised : goal.shape_of-raised
-shape_of-raised c = c.loop-n.invariant.raised_size
-
-pub shape_of-wanting : goal.shape_of-wanting
-shape_of-wanting c = c.loop-n.invariant.wanting_size
-
-pub returns : goal.returns
-returns c =
-    record {
-      result = gathered_end c.loop-n.invariant.gathered c.loop-n-test.false;
-      noted = nodes-end c.loop-n.invariant c.loop-n-test.false;
-    }
+pub returns-clause-noted : goal.returns-clause-noted
+returns-clause-noted c = nodes-end c.loop-n.invariant c.loop-n-test.false

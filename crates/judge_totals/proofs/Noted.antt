@@ -12,11 +12,11 @@ use borrow.Author.Tests.{ltb-true, ltb-false, lt-ltb, le-ltb, leb-true, leb-fals
 use Rattle.figures.specs.Figures.{at}
 use Rattle.figures.specs.Sums.{on}
 use Rattle.figures.proofs.Sums.{on_yes, on_no, on_le}
-use Rattle.rooms.specs.Table.{highest_rank}
-use Rattle.figures.specs.Credits.{credited}
-use Rattle.figures.proofs.Credits.{on_most, credited-at}
+use Rattle.rooms.specs.Table.{most_nodes, highest_rank}
+use Rattle.figures.proofs.Credits.{on_most, credited_none, credited_some, credited-length, credited-at, credited_past}
 use Rattle.deals.specs.Judge.{highest}
-use Rattle.judge_totals.specs.Totals.{Noted, merged, held_back}
+use Rattle.judge_totals.specs.Totals.{Noted, merged, noted_on, held_back}
+use Rattle.judge_totals.specs.declared.Notes.{Notes}
 
 -- ---- The same figures
 
@@ -172,7 +172,7 @@ module _ {given most : ℕ → ℕ} {watts raised wanting : ℕ} (n : Noted give
 
 -- ---- On a node
 
-pub merged-length : (with : ℕ → ℕ → ℕ) (node rank : ℕ) (l : List ℕ) → length (merged with node rank l) ≡ length l
+merged-length : (with : ℕ → ℕ → ℕ) (node rank : ℕ) (l : List ℕ) → length (merged with node rank l) ≡ length l
 unfolding merged
 merged-length with zero rank l = refl
 merged-length with (suc m) rank l = length-set l m (with (at l m) rank)
@@ -194,37 +194,79 @@ merged-at with (suc m) rank l i h = go (eqb m i) refl
         get_or-set_other l m i (with (at l m) rank) 0 (λ q. eqb-false m i e (sym q))
         ∙ sym (ap (λ (t : Bool). cond t (with (at l i) rank) (at l i)) (eqb-suc-suc m i ∙ e))
 
-pub merged_none : (with : ℕ → ℕ → ℕ) (node rank : ℕ) (l : List ℕ) → node ≡ 0 → l ≡ merged with node rank l
+merged_none : (with : ℕ → ℕ → ℕ) (node rank : ℕ) (l : List ℕ) → node ≡ 0 → l ≡ merged with node rank l
 unfolding merged
 merged_none with zero rank l e = refl
 merged_none with (suc m) rank l e = absurd (omega arith)
 
-pub merged_some : (with : ℕ → ℕ → ℕ) (node rank : ℕ) (l : List ℕ) {stored : ℕ} → (node ≡ 0 → ⊥) → stored ≡ with (at l (node - 1)) rank
+merged_some : (with : ℕ → ℕ → ℕ) (node rank : ℕ) (l : List ℕ) {stored : ℕ} → (node ≡ 0 → ⊥) → stored ≡ with (at l (node - 1)) rank
     → set l (node - 1) stored ≡ merged with node rank l
 unfolding merged
 merged_some with zero rank l n e = absurd (n refl)
 merged_some with (suc m) rank l n e = let q : suc m - 1 ≡ m = omega arith in ap (set l (suc m - 1)) e ∙ ap (λ (x : ℕ). set l x (with (at l x) rank)) q
 
 -- A place past the node is left as it is.
-pub merged_past : (with : ℕ → ℕ → ℕ) (node rank : ℕ) (l : List ℕ) (i : ℕ) → node ≤ i → at (merged with node rank l) i ≡ at l i
+merged_past : (with : ℕ → ℕ → ℕ) (node rank : ℕ) (l : List ℕ) (i : ℕ) → node ≤ i → at (merged with node rank l) i ≡ at l i
 unfolding merged
 merged_past with zero rank l i h = refl
 merged_past with (suc m) rank l i h = get_or-set_other l m i (with (at l m) rank) 0 (λ e. omega arith)
 
--- What is noted on a node, where what a cord or a child node has is noted on its own.
-pub noted_next : {given most given' most' : ℕ → ℕ} (watts raised wanting : List ℕ) (i node : ℕ) {more low high : ℕ}
-    → node ≤ length watts → node ≤ length raised → node ≤ length wanting
-    → Noted given most (at watts i) (at raised i) (at wanting i) → Noted given' most' more low high
-    → Noted (λ j. given j + on (eqb node (suc i)) (given' j)) (λ j. most j + on (eqb node (suc i)) (most' j))
-    (at (credited node more watts) i) (at (merged min node low raised) i) (at (merged max node high wanting) i)
-noted_next {given} {most} {given'} {most'} watts raised wanting i node {more} {low} {high} a b c n m =
-    noted_same (go (eqb node (suc i))) (λ j l. refl) (λ j l. refl)
-    (credited-at node more watts i a) (merged-at min node low raised i b) (merged-at max node high wanting i c)
-  where
-    go : (t : Bool) → Noted (λ j. given j + on t (given' j)) (λ j. most j + on t (most' j)) (at watts i + on t more)
-        (cond t (min (at raised i) low) (at raised i)) (cond t (max (at wanting i) high) (at wanting i))
-    go true = noted_both n m
-    go false = noted_same n (λ j l. omega arith) (λ j l. omega arith) (omega arith) refl refl
+-- The notes of every node of a room.
+pub record Sized (notes : Notes) : Type 0 where
+  pub given : length notes.given ≡ most_nodes
+  pub raised : length notes.raised ≡ most_nodes
+  pub wanting : length notes.wanting ≡ most_nodes
+
+-- The same notes, by their lists.
+notes_as : {given given' raised raised' wanting wanting' : List ℕ} → given ≡ given' → raised ≡ raised' → wanting ≡ wanting'
+    → ◌≡◌ {A = Notes} (record { given = given; raised = raised; wanting = wanting }) (record { given = given'; raised = raised'; wanting = wanting' })
+notes_as g r w = λ i. record { given = g i; raised = r i; wanting = w i }
+
+module _ (node watts low high : ℕ) (notes : Notes) where
+  -- Nothing is noted on no node.
+  pub noted_nowhere : node ≡ 0 → notes ≡ noted_on node watts low high notes
+  noted_nowhere e = notes_as (credited_none node watts notes.given e) (merged_none min node low notes.raised e) (merged_none max node high notes.wanting e)
+
+  -- On a node stands what code stores at its place.
+  pub noted_there : (node ≡ 0 → ⊥) → {lower higher : ℕ} → lower ≡ min (at notes.raised (node - 1)) low → higher ≡ max (at notes.wanting (node - 1)) high
+      → ◌≡◌ {A = Notes}
+      (record {
+        given = set notes.given (node - 1) (at notes.given (node - 1) + watts);
+        raised = set notes.raised (node - 1) lower;
+        wanting = set notes.wanting (node - 1) higher;
+      })
+      (noted_on node watts low high notes)
+  noted_there n l h = notes_as (credited_some node watts notes.given n) (merged_some min node low notes.raised n l) (merged_some max node high notes.wanting n h)
+
+  pub noted_sized : Sized notes → Sized (noted_on node watts low high notes)
+  noted_sized s = record {
+    given = credited-length node watts notes.given ∙ s.given;
+    raised = merged-length min node low notes.raised ∙ s.raised;
+    wanting = merged-length max node high notes.wanting ∙ s.wanting;
+  }
+
+  -- A place past the node is left as it is.
+  pub past_node : {given most : ℕ → ℕ} (i : ℕ) → node ≤ i → Noted given most (at notes.given i) (at notes.raised i) (at notes.wanting i)
+      → let next : Notes = noted_on node watts low high notes in Noted given most (at next.given i) (at next.raised i) (at next.wanting i)
+  past_node i h n =
+      noted_same n (λ j l. refl) (λ j l. refl)
+      (credited_past node watts notes.given i h) (merged_past min node low notes.raised i h) (merged_past max node high notes.wanting i h)
+
+  -- What is noted on a node, where what a cord or a child node has is noted on its own.
+  pub noted_next : {given most given' most' : ℕ → ℕ} (i : ℕ) → Sized notes → node ≤ most_nodes
+      → Noted given most (at notes.given i) (at notes.raised i) (at notes.wanting i) → Noted given' most' watts low high
+      → let next : Notes = noted_on node watts low high notes in
+      Noted (λ j. given j + on (eqb node (suc i)) (given' j)) (λ j. most j + on (eqb node (suc i)) (most' j)) (at next.given i) (at next.raised i) (at next.wanting i)
+  noted_next {given} {most} {given'} {most'} i s k n m =
+      noted_same (go (eqb node (suc i))) (λ j l. refl) (λ j l. refl)
+      (credited-at node watts notes.given i (omega (arith, s.given)))
+      (merged-at min node low notes.raised i (omega (arith, s.raised)))
+      (merged-at max node high notes.wanting i (omega (arith, s.wanting)))
+    where
+      go : (t : Bool) → Noted (λ j. given j + on t (given' j)) (λ j. most j + on t (most' j)) (at notes.given i + on t watts)
+          (cond t (min (at notes.raised i) low) (at notes.raised i)) (cond t (max (at notes.wanting i) high) (at notes.wanting i))
+      go true = noted_both n m
+      go false = noted_same n (λ j l. omega arith) (λ j l. omega arith) (omega arith) refl refl
 
 -- ---- The highest rank that could have more
 

@@ -1,5 +1,5 @@
 -- The whole plan: the table's refusals, those of the demands and of the lists, and the answer.
-use Rattle.std.specs.Prelude.{not, List, [], ◌∷◌, map, ℕ, suc, eqb, ltb, length}
+use Rattle.std.specs.Prelude.{not, List, [], ◌∷◌, map, ℕ, suc, eqb, ltb, length, Result, Ok, Err}
 use Rattle.outcomes.specs.Outcome.{Outcome, accepted, refused, Reason, unless, too_short}
 use Rattle.figures.specs.Bounds.{first_not_below}
 use Rattle.outcomes.specs.Part.{when_good}
@@ -15,8 +15,6 @@ use Rattle.deals.specs.declared.PlanList.TheVariants.{Grants, Caps, Headroom, He
 use Rattle.deals.specs.declared.Lengths.{Lengths}
 use Rattle.deals.specs.declared.PlanRefusal.{PlanRefusal}
 use Rattle.deals.specs.declared.PlanRefusal.TheVariants.{Table, DemandCount, DemandTooLarge, ListTooShort}
-use Rattle.deals.specs.declared.Planned.{Planned}
-use Rattle.deals.specs.declared.Planned.TheVariants.{Accepted, Refused}
 
 -- ---- Plans
 
@@ -147,10 +145,10 @@ plan table demands lengths = plan_step (checked table 0) demands lengths
 
 -- ---- What the caller sees
 
--- The answer to an outcome.
-abbrev pub answer_of : PlanOutcome → Planned
-answer_of (accepted plan) = Accepted plan.freed
-answer_of (refused refusal) = Refused refusal
+-- The answer to an outcome: the freed watts, or why the plan is refused.
+abbrev pub answer_of : PlanOutcome → Result ℕ PlanRefusal
+answer_of (accepted plan) = Ok plan.freed
+answer_of (refused refusal) = Err refusal
 
 -- ---- Numbers and places
 
@@ -176,10 +174,10 @@ plan_refusal_place (DemandTooLarge place) = place
 plan_refusal_place (ListTooShort list place) = place
 
 -- An answer's number, 0 if accepted, and its figure: the freed watts, or the refusal's place.
-abbrev pub plan_number : Planned → ℕ
-plan_number (Accepted freed) = 0
-plan_number (Refused refusal) = plan_refusal_number refusal
+abbrev pub plan_number : Result ℕ PlanRefusal → ℕ
+plan_number (Ok freed) = 0
+plan_number (Err refusal) = plan_refusal_number refusal
 
-abbrev pub plan_figure : Planned → ℕ
-plan_figure (Accepted freed) = freed
-plan_figure (Refused refusal) = plan_refusal_place refusal
+abbrev pub plan_figure : Result ℕ PlanRefusal → ℕ
+plan_figure (Ok freed) = freed
+plan_figure (Err refusal) = plan_refusal_place refusal

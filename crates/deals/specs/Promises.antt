@@ -1,7 +1,7 @@
 -- All that documents 01 and 02 ask to hold of plans and of judged lists, in their order, whatever the table and the demands. Statements
 -- only; proofs/Promises.antt proves each: `FirstKept` as `first_kept`, and so on. (Of Read and Write, of splits and of the other
 -- operations, the file of this name in their crate; crates/promises has all of them in one record.)
-use Rattle.std.specs.Prelude.{◌≡◌, true, false, List, map, ◌↔◌, ℕ, suc, ◌+◌, ◌-◌, ◌≤◌, ◌<◌, length}
+use Rattle.std.specs.Prelude.{◌≡◌, true, false, List, map, ◌↔◌, ℕ, suc, ◌+◌, ◌-◌, ◌≤◌, ◌<◌, length, Result}
 use Rattle.rooms.specs.Part.{good, Good}
 use Rattle.rooms.specs.Table.{Room, highest_rank, room_cords, table}
 use Rattle.rooms.specs.Trees.{beneath}
@@ -23,7 +23,7 @@ use Rattle.deals.specs.Ways.{Root, Way, cord_beneath, watts_beneath, from_rank}
 use Rattle.deals.specs.declared.Lengths.{Lengths}
 use Rattle.deals.specs.declared.PlanList.{PlanList}
 use Rattle.deals.specs.Judge.{verdict}
-use Rattle.deals.specs.declared.Planned.{Planned}
+use Rattle.deals.specs.declared.PlanRefusal.{PlanRefusal}
 use Rattle.deals.specs.declared.Verdict.{Verdict}
 use Rattle.deals.specs.declared.Verdict.TheVariants.{Passes, BelowLow, AboveWant, OverLimit, Short}
 
@@ -130,7 +130,7 @@ SettledFromRank =
 -- ---- Demand 3: refusal 9
 
 -- The answer is refusal 9, at place n.
-abbrev pub IsNine : Planned → ℕ → Type 0
+abbrev pub IsNine : Result ℕ PlanRefusal → ℕ → Type 0
 IsNine answer n = (plan_number answer ≡ 9) × (plan_figure answer ≡ n)
 
 -- Refusal 9 comes exactly when the lows beneath some node exceed its limit, and names the lowest such node.

@@ -3,7 +3,7 @@
 #![tactic(auto)]
 
 ghost use Rattle.std.specs.Prelude.{◌≡◌};
-ghost use Rattle.deals.specs.Plan.{plan_list_number, plan_refusal_number, plan_refusal_place, plan_number, plan_figure};
+ghost use Rattle.deals.specs.Plan.{plan_list_number, plan_refusal_number, plan_refusal_place};
 ghost use Rattle.deals.specs.Judge.{verdict_number, verdict_names, verdict_rank};
 
 // The lists by level, a rank's metrics, its dealing, and the deal, rank by rank.
@@ -13,7 +13,7 @@ pub mod levels;
 pub mod metrics;
 
 // The lists that a plan is written to.
-#[derive(Clone, Copy)]
+#[derive(Clone, Copy, Debug, PartialEq, Eq)]
 pub enum PlanList {
     Grants,
     Caps,
@@ -22,7 +22,7 @@ pub enum PlanList {
 }
 
 // How many entries each of the lists has that are lent to Plan.
-#[derive(Clone, Copy)]
+#[derive(Clone, Copy, Debug, PartialEq, Eq)]
 pub struct Lengths {
     pub grants: usize,
     pub caps: usize,
@@ -31,20 +31,13 @@ pub struct Lengths {
 }
 
 // Why a plan is turned back, and where: the table's refusal, the count of servers, a demand's index, or a list and the length that it
-// needs.
-#[derive(Clone, Copy)]
+// needs. A plan that is accepted is answered by its freed watts: `Result<u64, PlanRefusal>`.
+#[derive(Clone, Copy, Debug, PartialEq, Eq)]
 pub enum PlanRefusal {
     Table(rooms::SheetRefusal),
     DemandCount(usize),
     DemandTooLarge(usize),
     ListTooShort(PlanList, usize),
-}
-
-// What a plan comes to: the freed watts, or why it is turned back.
-#[derive(Clone, Copy)]
-pub enum Planned {
-    Accepted(u64),
-    Refused(PlanRefusal),
 }
 
 impl PlanList {
@@ -80,38 +73,16 @@ impl PlanRefusal {
     {
         match self {
             PlanRefusal::Table(refusal) => refusal.place(),
-            PlanRefusal::DemandCount(place) => place,
-            PlanRefusal::DemandTooLarge(place) => place,
-            PlanRefusal::ListTooShort(_, place) => place,
-        }
-    }
-}
-
-impl Planned {
-    // The refusal's number, or 0.
-    pub fn number(self) -> u64
-        ensures result { result ≡ plan_number self }
-    {
-        match self {
-            Planned::Accepted(_) => 0,
-            Planned::Refused(refusal) => refusal.number(),
-        }
-    }
-
-    // The freed watts, or the refusal's place.
-    pub fn figure(self) -> u64
-        ensures result { result ≡ plan_figure self }
-    {
-        match self {
-            Planned::Accepted(freed) => freed,
-            Planned::Refused(refusal) => refusal.place() as u64,
+            PlanRefusal::DemandCount(place)
+            | PlanRefusal::DemandTooLarge(place)
+            | PlanRefusal::ListTooShort(_, place) => place,
         }
     }
 }
 
 // What is wrong with a list of grants: nothing; a cord, by its place, that has less than its low or more than its want; a node, by its
 // number, whose limit is passed; or a root, by its number, whose tree is short, and the highest rank at which it is.
-#[derive(Clone, Copy)]
+#[derive(Clone, Copy, Debug, PartialEq, Eq)]
 pub enum Verdict {
     Passes,
     BelowLow(usize),
@@ -140,10 +111,8 @@ impl Verdict {
     {
         match self {
             Verdict::Passes => 0,
-            Verdict::BelowLow(cord) => cord,
-            Verdict::AboveWant(cord) => cord,
-            Verdict::OverLimit(node) => node,
-            Verdict::Short(root, _) => root,
+            Verdict::BelowLow(place) | Verdict::AboveWant(place) => place,
+            Verdict::OverLimit(number) | Verdict::Short(number, _) => number,
         }
     }
 
@@ -152,11 +121,8 @@ impl Verdict {
         ensures result { result ≡ verdict_rank self }
     {
         match self {
-            Verdict::Passes => 0,
-            Verdict::BelowLow(_) => 0,
-            Verdict::AboveWant(_) => 0,
-            Verdict::OverLimit(_) => 0,
             Verdict::Short(_, rank) => rank,
+            _ => 0,
         }
     }
 }

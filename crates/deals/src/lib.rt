@@ -6,6 +6,8 @@ ghost use Rattle.std.specs.Prelude.{◌≡◌};
 ghost use Rattle.deals.specs.Plan.{plan_list_number, plan_refusal_number, plan_refusal_place};
 ghost use Rattle.deals.specs.Judge.{verdict_number, verdict_names, verdict_rank};
 
+use outcomes::Refusal;
+
 // The lists by level, a rank's metrics, its dealing, and the deal, rank by rank.
 pub mod by_rank;
 pub mod dealing;
@@ -54,11 +56,13 @@ impl PlanList {
     }
 }
 
-impl PlanRefusal {
+impl Refusal for PlanRefusal {
+    ghost number_of = { plan_refusal_number };
+
+    ghost place_of = { plan_refusal_place };
+
     // The refusal's number.
-    pub fn number(self) -> u64
-        ensures result { result ≡ plan_refusal_number self }
-    {
+    fn number(self) -> u64 {
         match self {
             PlanRefusal::Table(refusal) => refusal.number(),
             PlanRefusal::DemandCount(_) => 10,
@@ -68,14 +72,12 @@ impl PlanRefusal {
     }
 
     // The refusal's place.
-    pub fn place(self) -> usize
-        ensures result { result ≡ plan_refusal_place self }
-    {
+    fn place(self) -> u64 {
         match self {
             PlanRefusal::Table(refusal) => refusal.place(),
             PlanRefusal::DemandCount(place)
             | PlanRefusal::DemandTooLarge(place)
-            | PlanRefusal::ListTooShort(_, place) => place,
+            | PlanRefusal::ListTooShort(_, place) => place as u64,
         }
     }
 }

@@ -21,34 +21,32 @@ use Rattle.rooms.specs.Limits.{lows_beneath, checked, lows_told}
 use Rattle.rooms.specs.Lists.{parents_of, limits_of}
 use Rattle.rooms.specs.Rows.{OfRoom, NodesFit, ServersFit, CordsFit}
 use Rattle.rooms.specs.Told.{told}
-use Rattle.rooms.specs.declared.Checked.{Checked}
-use Rattle.rooms.specs.declared.Checked.TheVariants as checks
+use Rattle.std.specs.Prelude.{Ok, Err}
 use Rattle.rooms.specs.declared.SheetRefusal.{SheetRefusal}
 use Rattle.rooms.proofs.Found.{node_lows-at, lows_told-length}
 use Rattle.rooms.proofs.Accepted.{Accepted}
 use Rattle.rooms.proofs.Accepted as rooms
+use Rattle.numbers.proofs.SheetLoops.{ok_parts}
 use Rattle.rooms.proofs.Steps.{known}
 use Rattle.rooms.proofs.Outcomes.{refused_so}
 use Rattle.rooms.proofs.Reach.{prefix_decides}
 use Rattle.deals.specs.Plan.{first_too_large}
 use Rattle.layout.specs.Lists.{HasLowsBeneath, CordsLaidOut}
 use Rattle.layout.specs.Outcome.{LoadOutcome, load_reasons, loading, counts_of, loaded_of}
-use Rattle.layout.specs.Room.{RoomLists, RoomLoaded}
+use Rattle.layout.specs.Room.{CountsFew, RoomLists, RoomLoaded}
 use Rattle.layout.specs.declared.room.Counts.{Counts}
 use Rattle.layout.specs.declared.room.LoadRefusal.{LoadRefusal}
 use Rattle.layout.specs.declared.room.LoadRefusal.TheVariants.{Table, DemandCount, DemandTooLarge}
-use Rattle.layout.specs.declared.room.Loaded.{Loaded}
-use Rattle.layout.specs.declared.room.Loaded.TheVariants as loads
 
 -- ---- What the table's check tells
 
 -- The check tells a good table and the count of its cords.
-pub table_good : (table : List ℕ) {answer : Checked} {v j : ℕ} → answer ≡ told room_cords (checked table 0) → answer ≡ checks.Good v j → Good (checked table 0)
-table_good table d e = let k = known room_cords (checked table 0) d e in record { value = k.got; next = _; is = k.is }
+pub table_good : (table : List ℕ) {v j : ℕ} → Ok (v, j) ≡ told room_cords (checked table 0) → Good (checked table 0)
+table_good table d = let k = known room_cords (checked table 0) d in record { value = k.got; next = _; is = k.is }
 
-pub cords-told : (table : List ℕ) {answer : Checked} {v j : ℕ} → answer ≡ told room_cords (checked table 0) → answer ≡ checks.Good v j → CordsFit table v
+pub cords-told : (table : List ℕ) {v j : ℕ} → Ok (v, j) ≡ told room_cords (checked table 0) → CordsFit table v
 unfolding told
-cords-told table {answer = answer} {v = v} d e r end is = let t : answer ≡ checks.Good (room_cords r) end = d ∙ rw is in cc
+cords-told table {v = v} {j = j} d r end is = let t : Ok (v, j) ≡ Ok (room_cords r, end) = rw is at d in (ok_parts t).0
 
 -- The list that the check hands out has a place for each node, and there the lows beneath it.
 pub lows_long : (table list : List ℕ) → list ≡ lows_told (checked table 0) → most_nodes ≡ length list
@@ -77,13 +75,12 @@ module _ (table demands : List ℕ) where
   loading_bad e = loading_is e
 
   -- A refusal is told.
-  refused_told : {q : LoadRefusal} → loading table demands ≡ refused q → loads.Refused q ≡ loaded_of (loading table demands)
+  refused_told : {q : LoadRefusal} → loading table demands ≡ refused q → Err q ≡ loaded_of (loading table demands)
   refused_told e = rw e refl
 
   -- The table's refusal stands.
-  pub table-told : {answer : Checked} {q : SheetRefusal} → answer ≡ told room_cords (checked table 0) → answer ≡ checks.Refused q
-      → loads.Refused (Table q) ≡ loaded_of (loading table demands)
-  table-told d e = refused_told (loading_bad (refused_so room_cords (checked table 0) d e))
+  pub table-told : {q : SheetRefusal} → Err q ≡ told room_cords (checked table 0) → Err (Table q) ≡ loaded_of (loading table demands)
+  table-told d = refused_told (loading_bad (refused_so room_cords (checked table 0) d))
 
   -- These reasons to refuse are left, of those of a good table's room, and decide.
   pub record Left (room : Room) (rest : List (Reason LoadRefusal)) : Type 0 where
@@ -95,7 +92,7 @@ module _ (table demands : List ℕ) where
 
   -- A reason holds, and its refusal is told; or it does not, and the others are left.
   module _ {room : Room} {reason : Reason LoadRefusal} {rest : List (Reason LoadRefusal)} (left : Left room (reason ∷ rest)) where
-    stopped : reason.holds ≡ true → loads.Refused reason.refusal ≡ loaded_of (loading table demands)
+    stopped : reason.holds ≡ true → Err reason.refusal ≡ loaded_of (loading table demands)
     stopped h = refused_told (left.is ∙ unless_stop reason rest room h)
 
     passed : reason.holds ≡ false → Left room rest
@@ -104,9 +101,9 @@ module _ (table demands : List ℕ) where
   module _ (g : Good (checked table 0)) where
     -- The count of demands.
     module _ (n : ℕ) (is : n ≡ length g.value.servers) where
-      pub count-told : (length demands ≡ n → ⊥) → loads.Refused (DemandCount n) ≡ loaded_of (loading table demands)
+      pub count-told : (length demands ≡ n → ⊥) → Err (DemandCount n) ≡ loaded_of (loading table demands)
       count-told h =
-          ap (λ (k : ℕ). loads.Refused (DemandCount k)) is
+          ap (λ (k : ℕ). Err (DemandCount k)) is
           ∙ stopped (table-passed g) (ap not (ne_eqb (length demands) (length g.value.servers) (λ e. h (e ∙ sym is))))
 
       pub count-passed : length demands ≡ n → Left g.value (drop 1 (load_reasons g.value demands))
@@ -114,15 +111,18 @@ module _ (table demands : List ℕ) where
 
     -- The demands themselves.
     module _ (left : Left g.value (drop 1 (load_reasons g.value demands))) (n : ℕ) (is : n ≡ first_too_large demands) where
-      pub large_told : n < length demands → loads.Refused (DemandTooLarge n) ≡ loaded_of (loading table demands)
-      large_told h = ap (λ (k : ℕ). loads.Refused (DemandTooLarge k)) is ∙ stopped left (lt-ltb (first_too_large demands) (length demands) (omega arith))
+      pub large_told : n < length demands → Err (DemandTooLarge n) ≡ loaded_of (loading table demands)
+      large_told h = ap (λ (k : ℕ). Err (DemandTooLarge k)) is ∙ stopped left (lt-ltb (first_too_large demands) (length demands) (omega arith))
 
       pub all_passed : length demands ≤ n → loading table demands ≡ accepted g.value
       all_passed h = (passed left (le-ltb (first_too_large demands) (length demands) (omega arith))).is ∙ unless_none g.value
 
     -- The room's counts are told.
-    pub room_told : loading table demands ≡ accepted g.value → {counts : Counts} → counts ≡ counts_of g.value → loads.Good counts ≡ loaded_of (loading table demands)
-    room_told e is = rw (e, is) refl
+    pub room_told : loading table demands ≡ accepted g.value → {nodes servers cords scale : ℕ} → nodes ≡ length g.value.nodes → servers ≡ length g.value.servers
+        → cords ≡ room_cords g.value → scale ≡ g.value.scale
+        → Ok (record { nodes = nodes; servers = servers; cords = cords; scale = scale }) ≡ loaded_of (loading table demands)
+    room_told e n v k s =
+        ap Ok (λ i. record { nodes = n i; servers = v i; cords = k i; scale = s i }) ∙ sym (ap loaded_of e)
 
 -- ---- What is loaded
 
@@ -164,10 +164,10 @@ module _ (table demands : List ℕ) {r : Room} (e : loading table demands ≡ ac
           go true h d = eqb-true a b h
           go false h d = absurd (true≢false d)
 
-pub found : {table demands : List ℕ} {answer : Loaded} {counts : Counts} → answer ≡ loaded_of (loading table demands) → answer ≡ loads.Good counts → RoomFound table demands counts
-found {table} {demands} {answer} {counts} d e = go (loading table demands) refl (sym e ∙ d)
+pub found : {table demands : List ℕ} {counts : Counts} → Ok counts ≡ loaded_of (loading table demands) → RoomFound table demands counts
+found {table} {demands} {counts} d = go (loading table demands) refl d
   where
-    go : (o : LoadOutcome) → loading table demands ≡ o → loads.Good counts ≡ loaded_of o → RoomFound table demands counts
+    go : (o : LoadOutcome) → loading table demands ≡ o → Ok counts ≡ loaded_of o → RoomFound table demands counts
     go (accepted r) is told = let same : counts ≡ counts_of r = cc in rw same (outcome_found table demands is)
     go (refused q) is told = absurd (let z : ◌≡◌ {A = ℕ} 0 1 = cc in omega arith)
 
@@ -199,6 +199,9 @@ module _ {table demands : List ℕ} {counts : Counts} (f : RoomFound table deman
 
   pub cords_few : counts.cords ≤ most_cords
   cords_few = omega (arith, cords-count, found_accepted.few_cords)
+
+  pub counts_few : CountsFew counts
+  counts_few = record { nodes = nodes_few; servers = servers_few; cords = cords_few }
 
   pub nodes-fit : NodesFit table counts.nodes
   nodes-fit r end q = nodes-count ∙ ap (λ (x : Room). length x.nodes) (same_room r end q)
@@ -257,8 +260,8 @@ module _ {table demands : List ℕ} {counts : Counts} (f : RoomFound table deman
   lists-loaded r e = subst LoadedAs (accepted_is (sym f.accepts ∙ e)) own
 
 -- Where loading is refused, no room is accepted.
-pub none_loaded : (table demands : List ℕ) {q : LoadRefusal} → loads.Refused q ≡ loaded_of (loading table demands) → (r : Room) → loading table demands ≡ accepted r → ⊥
-none_loaded table demands d r e = let h = d ∙ ap loaded_of e in let z : ◌≡◌ {A = ℕ} 0 1 = cc in omega arith
+pub none_loaded : (table demands : List ℕ) {q : LoadRefusal} → Err q ≡ loaded_of (loading table demands) → (r : Room) → loading table demands ≡ accepted r → ⊥
+none_loaded table demands d r e = let h = d ∙ ap loaded_of e in cc
 
 -- ---- A table and demands in bytes
 

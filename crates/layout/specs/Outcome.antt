@@ -1,5 +1,5 @@
 -- Loading: what the checks of a table and of its servers' demands come to.
-use Rattle.std.specs.Prelude.{List, [], ◌∷◌, ℕ, length}
+use Rattle.std.specs.Prelude.{List, [], ◌∷◌, ℕ, length, Result, Ok, Err}
 use Rattle.outcomes.specs.Outcome.{Outcome, accepted, refused, Reason, unless}
 use Rattle.outcomes.specs.Part.{when_good}
 use Rattle.rooms.specs.Table.{Room, room_cords}
@@ -9,8 +9,6 @@ use Rattle.deals.specs.Plan.{count_differs, demand_too_large}
 use Rattle.layout.specs.declared.room.Counts.{Counts}
 use Rattle.layout.specs.declared.room.LoadRefusal.{LoadRefusal}
 use Rattle.layout.specs.declared.room.LoadRefusal.TheVariants.{Table, DemandCount, DemandTooLarge}
-use Rattle.layout.specs.declared.room.Loaded.{Loaded}
-use Rattle.layout.specs.declared.room.Loaded.TheVariants.{Good, Refused}
 
 -- What loading comes to: a room, or a refusal.
 abbrev pub LoadOutcome : Type 0
@@ -30,9 +28,9 @@ abbrev pub counts_of : Room → Counts
 counts_of r = record { nodes = length r.nodes; servers = length r.servers; cords = room_cords r; scale = r.scale }
 
 -- The answer to an outcome.
-abbrev pub loaded_of : LoadOutcome → Loaded
-loaded_of (accepted r) = Good (counts_of r)
-loaded_of (refused refusal) = Refused refusal
+abbrev pub loaded_of : LoadOutcome → Result Counts LoadRefusal
+loaded_of (accepted r) = Ok (counts_of r)
+loaded_of (refused refusal) = Err refusal
 
 -- A refusal's number and its place: that of the table, the count of servers, or a demand's index.
 abbrev pub load_refusal_number : LoadRefusal → ℕ

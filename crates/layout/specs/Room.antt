@@ -5,6 +5,13 @@ use Rattle.rooms.specs.Table.{Room, most_nodes, most_servers, most_cords, room_c
 use Rattle.rooms.specs.Limits.{lows_beneath}
 use Rattle.rooms.specs.Lists.{parents_of, limits_of}
 use Rattle.layout.specs.Lists.{CordsLaidOut}
+use Rattle.layout.specs.declared.room.Counts.{Counts}
+
+-- Counts of no more than lists for any room take.
+pub record CountsFew (counts : Counts) : Type 0 where
+  pub nodes : counts.nodes ≤ most_nodes
+  pub servers : counts.servers ≤ most_servers
+  pub cords : counts.cords ≤ most_cords
 
 -- Lists of these lengths take those of any room: a place for each node, for each cord, or for each server.
 pub record LoadSpace (parents spare cords lows wants ceilings needs : ℕ) : Type 0 where

@@ -1,18 +1,20 @@
 // A room, loaded: its table and the demands are checked, and its lists laid out at the fronts of lists for any room. What reads the table
 // and the demands stands here alone: who goes on needs no word of them.
-ghost use Rattle.std.specs.Prelude.{◌≡◌, length};
+ghost use Rattle.std.specs.Prelude.{◌≡◌, length, IfOk};
 ghost use Rattle.outcomes.specs.Outcome.{accepted};
 ghost use Rattle.words.specs.Bytes.{words_of};
 ghost use Rattle.rooms.specs.Table.{Room};
 ghost use Rattle.rooms.specs.Limits.{checked, lows_told};
 ghost use Rattle.layout.specs.Outcome.{loading, loaded_of, load_refusal_number, load_refusal_place};
-ghost use Rattle.layout.specs.Room.{LoadSpace, RoomLoaded};
+ghost use Rattle.layout.specs.Room.{CountsFew, LoadSpace, RoomLoaded};
+ghost use Rattle.layout.specs.declared.room.LoadRefusal.TheVariants.{Table};
 
 use crate::{load_cords, load_nodes};
 use demands::DECIDING_DEMANDS;
-use figures::{first_not_below, word_index};
+use figures::first_not_below;
+use outcomes::Refusal;
 use rooms::lists::{node_count, server_count, table_scale};
-use rooms::{Checked, DECIDING_WORDS, MOST_WATTS};
+use rooms::{DECIDING_WORDS, MOST_WATTS, SheetRefusal};
 
 // One more than the most watts of a demand.
 const TOO_MANY_WATTS: u32 = MOST_WATTS + 1;
@@ -27,18 +29,20 @@ pub struct Counts {
 }
 
 // Why a table or its servers' demands are turned back, and where: the table's refusal, the count of servers, or a demand's index.
-#[derive(Clone, Copy)]
+#[derive(Clone, Copy, PartialEq, Eq)]
 pub enum LoadRefusal {
-    Table(rooms::SheetRefusal),
+    Table(SheetRefusal),
     DemandCount(usize),
     DemandTooLarge(usize),
 }
 
-impl LoadRefusal {
+impl Refusal for LoadRefusal {
+    ghost number_of = { load_refusal_number };
+
+    ghost place_of = { load_refusal_place };
+
     // The refusal's number.
-    pub fn number(self) -> u64
-        ensures result { result ≡ load_refusal_number self }
-    {
+    fn number(self) -> u64 {
         match self {
             LoadRefusal::Table(refusal) => refusal.number(),
             LoadRefusal::DemandCount(_) => 10,
@@ -47,46 +51,46 @@ impl LoadRefusal {
     }
 
     // The refusal's place.
-    pub fn place(self) -> usize
-        ensures result { result ≡ load_refusal_place self }
-    {
+    fn place(self) -> u64 {
         match self {
             LoadRefusal::Table(refusal) => refusal.place(),
-            LoadRefusal::DemandCount(place) => place,
-            LoadRefusal::DemandTooLarge(place) => place,
+            LoadRefusal::DemandCount(place) => place as u64,
+            LoadRefusal::DemandTooLarge(place) => place as u64,
         }
     }
 }
 
-// What loading comes to: the room's counts, or why it is turned back.
-#[derive(Clone, Copy)]
-pub enum Loaded {
-    Good(Counts),
-    Refused(LoadRefusal),
+impl From<SheetRefusal> for LoadRefusal {
+    ghost from_gives = { λ refusal told. told ≡ Table refusal };
+
+    fn from(refusal: SheetRefusal) -> LoadRefusal {
+        LoadRefusal::Table(refusal)
+    }
 }
 
 // The checks of a table and demands, in their order. Of a good table, `beneath` gets the lows beneath each node.
-pub fn admit(table: &[u32], demands: &[u32], beneath: &mut [u64; 512]) -> Loaded
+pub fn admit(
+    table: &[u32],
+    demands: &[u32],
+    beneath: &mut [u64; 512],
+) -> Result<Counts, LoadRefusal>
+    ensures few { IfOk result CountsFew }
     ensures answer { result ≡ loaded_of (loading table.now demands.now) }
     ensures lows { beneath.new ≡ lows_told (checked table.now 0) }
 {
-    let checked = rooms::parts::check_lows(table, beneath);
-    let count = match checked {
-        Checked::Good(cords, _) => cords,
-        Checked::Refused(refusal) => return Loaded::Refused(LoadRefusal::Table(refusal)),
-    };
+    let (cords, _) = rooms::parts::check_lows(table, beneath)?;
     let servers = server_count(table);
     if demands.len() != servers {
-        return Loaded::Refused(LoadRefusal::DemandCount(servers));
+        return Err(LoadRefusal::DemandCount(servers));
     }
     let large = first_not_below(TOO_MANY_WATTS, demands);
     if large < demands.len() {
-        return Loaded::Refused(LoadRefusal::DemandTooLarge(large));
+        return Err(LoadRefusal::DemandTooLarge(large));
     }
-    Loaded::Good(Counts {
+    Ok(Counts {
         nodes: node_count(table),
         servers,
-        cords: word_index(count),
+        cords: cords as usize,
         scale: table_scale(table),
     })
 }
@@ -103,35 +107,31 @@ pub fn load_room(
     wants: &mut [u32],
     ceilings: &mut [u32],
     needs: &mut [u32],
-) -> Loaded
+) -> Result<Counts, LoadRefusal>
     requires space { LoadSpace (length parents.old) (length spare.old) (length cords.old) (length lows.old) (length wants.old)
         (length ceilings.old) (length needs.old) }
+    ensures few { IfOk result CountsFew }
     ensures answer { result ≡ loaded_of (loading table.now demands.now) }
     ensures lists { (r : Room) → loading table.now demands.now ≡ accepted r
         → RoomLoaded r demands.now parents.new spare.new cords.new lows.new
         wants.new ceilings.new needs.new }
 {
     let mut beneath = [0u64; 512];
-    let loaded = admit(table, demands, &mut beneath);
-    match loaded {
-        Loaded::Good(counts) => {
-            let n = counts.nodes;
-            let v = counts.servers;
-            let k = counts.cords;
-            load_nodes(table, &beneath[..n], &mut parents[..n], &mut spare[..n]);
-            load_cords(
-                table,
-                demands,
-                &mut cords[..k],
-                &mut lows[..k],
-                &mut wants[..k],
-                &mut ceilings[..k],
-                &mut needs[..v],
-            );
-            Loaded::Good(counts)
-        }
-        Loaded::Refused(refusal) => Loaded::Refused(refusal),
-    }
+    let counts = admit(table, demands, &mut beneath)?;
+    let n = counts.nodes;
+    let v = counts.servers;
+    let k = counts.cords;
+    load_nodes(table, &beneath[..n], &mut parents[..n], &mut spare[..n]);
+    load_cords(
+        table,
+        demands,
+        &mut cords[..k],
+        &mut lows[..k],
+        &mut wants[..k],
+        &mut ceilings[..k],
+        &mut needs[..v],
+    );
+    Ok(counts)
 }
 
 // The same of a table and demands in bytes. Their words stand in lists of its own, of which the first decide every answer: none of them
@@ -146,9 +146,10 @@ pub fn load_bytes(
     wants: &mut [u32],
     ceilings: &mut [u32],
     needs: &mut [u32],
-) -> Loaded
+) -> Result<Counts, LoadRefusal>
     requires space { LoadSpace (length parents.old) (length spare.old) (length cords.old) (length lows.old) (length wants.old)
         (length ceilings.old) (length needs.old) }
+    ensures few { IfOk result CountsFew }
     ensures answer { result ≡ loaded_of (loading (words_of table.now) (words_of demands.now)) }
     ensures lists { (r : Room) → loading (words_of table.now) (words_of demands.now) ≡ accepted r
         → RoomLoaded r (words_of demands.now) parents.new spare.new cords.new lows.new

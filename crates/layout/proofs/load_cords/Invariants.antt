@@ -1,4 +1,3 @@
-use Prim.Native.Nat.{◌-◌}
 use Rattle.layout.proofs.Loading.{Loading, LoadingServer}
 use Rattle.layout.proofs.load_cords.Given as goal
 

@@ -1,49 +1,43 @@
 -- `admit` meets its contract: the checks are made in the order of the definition's reasons to refuse.
-use mathlib.Core.Path.{◌≡◌, refl, ◌∙◌}
-use lib.ListN.{length, drop}
+use mathlib.Core.Path.{◌≡◌}
+use lib.ListN.{length}
+use Rattle.std.proofs.lemmas.Result.{err_from_is_err_and}
 use Rattle.rooms.specs.Part.{Good}
 use Rattle.rooms.specs.Limits.{checked}
-use Rattle.layout.specs.Outcome.{load_reasons}
-use Rattle.layout.proofs.Loads.{table_good, cords-told, Left, table-told, count-told, count-passed, large_told, all_passed, room_told}
+use Rattle.layout.proofs.Loads.{table_good, cords-told, table-told, count-told, count-passed, large_told, all_passed, room_told, found, counts_few}
 use Rattle.layout.proofs.room.admit.Goals as goal
+use Rattle.layout.proofs.room.admit.Goals.{After-server_count-servers}
 
-pub returns-in-Refused : goal.returns-in-Refused
-returns-in-Refused c =
-    record {
-      answer = table-told _ _ c.check_lows-checked.ensures.result c.in-Refused.is;
-      lows = c.check_lows-checked.ensures.lows;
-    }
+-- The room of the good table, and its count of servers.
+room : (c : After-server_count-servers) → Good (checked c.args.table.now 0)
+room c = table_good c.args.table.now c.in_ok-cords.ensures.result
 
-pub returns-then-demands-servers : goal.returns-then-demands-servers
-returns-then-demands-servers c =
-    let room : Good (checked c.args.table.now 0) = table_good c.args.table.now c.check_lows-checked.ensures.result c.in-Good.is in
-    let server-count : c.server_count-servers.result ≡ length room.value.servers = c.server_count-servers.ensures.count room.value room.next room.is in
-    record {
-      answer = count-told c.args.table.now c.args.demands.now room _ server-count c.if-demands-servers.true;
-      lows = c.check_lows-checked.ensures.lows;
-    }
+servers : (c : After-server_count-servers) → c.server_count-servers.result ≡ length (room c).value.servers
+servers c = let r = room c in c.server_count-servers.ensures.count r.value r.next r.is
 
-pub returns-then-large-demands : goal.returns-then-large-demands
-returns-then-large-demands c =
-    let room : Good (checked c.args.table.now 0) = table_good c.args.table.now c.check_lows-checked.ensures.result c.in-Good.is in
-    let server-count : c.server_count-servers.result ≡ length room.value.servers = c.server_count-servers.ensures.count room.value room.next room.is in
-    let counted : Left c.args.table.now c.args.demands.now room.value (drop 1 (load_reasons room.value c.args.demands.now)) = count-passed c.args.table.now c.args.demands.now room _ server-count c.if-demands-servers.false in
-    record {
-      answer = large_told c.args.table.now c.args.demands.now room counted _ c.first_not_below-large.ensures.result c.if-large-demands.true;
-      lows = c.check_lows-checked.ensures.lows;
-    }
+pub returns-in_err-cords-clause-answer : goal.returns-in_err-cords-clause-answer
+returns-in_err-cords-clause-answer c =
+    let p = err_from_is_err_and c.from_residual.result c.from_residual.ensures.1 in
+    rw (p.1, p.2) (table-told _ _ c.in_err-cords.ensures.result)
+
+pub returns-then-demands-servers-clause-answer : goal.returns-then-demands-servers-clause-answer
+returns-then-demands-servers-clause-answer c =
+    let at = (goal.at.returns-then-demands-servers-clause-answer c).After-server_count-servers in
+    count-told c.args.table.now c.args.demands.now (room at) _ (servers at) c.if-demands-servers.true
+
+pub returns-then-large-demands-clause-answer : goal.returns-then-large-demands-clause-answer
+returns-then-large-demands-clause-answer c =
+    let at = (goal.at.returns-then-large-demands-clause-answer c).After-server_count-servers in
+    large_told c.args.table.now c.args.demands.now (room at) (count-passed c.args.table.now c.args.demands.now (room at) _ (servers at) c.if-demands-servers.false) _
+    c.first_not_below-large.ensures.result c.if-large-demands.true
 
 pub returns : goal.returns
 returns c =
-    let room : Good (checked c.args.table.now 0) = table_good c.args.table.now c.check_lows-checked.ensures.result c.in-Good.is in
-    let server-count : c.server_count-servers.result ≡ length room.value.servers = c.server_count-servers.ensures.count room.value room.next room.is in
-    let counted : Left c.args.table.now c.args.demands.now room.value (drop 1 (load_reasons room.value c.args.demands.now)) = count-passed c.args.table.now c.args.demands.now room _ server-count c.if-demands-servers.false in
-    let nodes = c.node_count.ensures.count room.value room.next room.is in
-    let cords = c.word_index.ensures.result.0 ∙ cords-told c.args.table.now c.check_lows-checked.ensures.result c.in-Good.is room.value room.next room.is in
-    let scale = c.table_scale.ensures.scale room.value room.next room.is in
-    record {
-      answer = room_told c.args.table.now c.args.demands.now room
-          (all_passed c.args.table.now c.args.demands.now room counted _ c.first_not_below-large.ensures.result c.if-large-demands.false)
-          (rw (nodes, server-count, cords, scale) refl);
-      lows = c.check_lows-checked.ensures.lows;
-    }
+    let at = (goal.at.returns c).After-server_count-servers in
+    let r = room at in
+    let told = room_told c.args.table.now c.args.demands.now r
+    (all_passed c.args.table.now c.args.demands.now r (count-passed c.args.table.now c.args.demands.now r _ (servers at) c.if-demands-servers.false) _
+    c.first_not_below-large.ensures.result c.if-large-demands.false)
+    (c.node_count.ensures.count r.value r.next r.is) (servers at)
+    (cords-told c.args.table.now c.in_ok-cords.ensures.result r.value r.next r.is) (c.table_scale.ensures.scale r.value r.next r.is) in
+    record { few = counts_few (found told); answer = told; lows = c.check_lows.ensures.lows }

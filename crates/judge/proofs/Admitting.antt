@@ -3,7 +3,6 @@ use mathlib.Core.Path.{◌≡◌, refl, sym, ap, ◌∙◌, subst}
 use mathlib.Core.List.{List}
 use Prim.Native.Nat.{ℕ}
 use native.Mathlib.Nat.{le_of_eq}
-use native.Mathlib.Omega.{arith}
 use lib.ListN.{length}
 use borrow.Author.Tests.{eq-eqb, ne_eqb}
 use Rattle.outcomes.specs.Outcome.{accepted, refused, unless}
@@ -14,15 +13,13 @@ use Rattle.rooms.specs.Rows.{OfRoom, ServersFit, CordsFit, ScaleIs}
 use Rattle.layout.specs.Outcome.{LoadOutcome, loading, loaded_of}
 use Rattle.layout.specs.declared.room.Counts.{Counts}
 use Rattle.layout.specs.declared.room.LoadRefusal.{LoadRefusal}
-use Rattle.layout.specs.declared.room.Loaded.{Loaded}
-use Rattle.layout.specs.declared.room.Loaded.TheVariants as loads
-use Rattle.layout.proofs.Loads.{RoomFound, found_good, nodes-fit, cords-count, demands_fit, lows_long, lows-told}
+use Rattle.std.specs.Prelude.{Ok, Err}
+use Rattle.layout.proofs.Loads.{RoomFound, found_good, nodes-fit, nodes_few, cords-count, demands_fit, lows_long, lows-told}
 use Rattle.deals.specs.Judge.{verdict}
 use Rattle.deals.specs.declared.Verdict.{Verdict}
 use Rattle.judge.specs.Outcome.{judge_loaded, judging, answer_of}
 use Rattle.judge.specs.Lists.{NodesGiven}
 use Rattle.judge.specs.declared.JudgeRefusal.TheVariants.{Load, GrantCount}
-use Rattle.judge.specs.declared.Judged.TheVariants as judged
 
 module _ (table demands grants : List ℕ) where
   judging_is : {o : LoadOutcome} → loading table demands ≡ o → judging table demands grants ≡ judge_loaded o demands grants
@@ -35,13 +32,12 @@ module _ (table demands grants : List ℕ) where
   unfolding judge_loaded
   by_refusal q = refl
 
-  pub load_told : {answer : Loaded} {q : LoadRefusal} → answer ≡ loaded_of (loading table demands) → answer ≡ loads.Refused q
-      → judged.Refused (Load q) ≡ answer_of (judging table demands grants)
-  load_told {q = q} d e = go (loading table demands) refl (sym e ∙ d)
+  pub load_told : {q : LoadRefusal} → Err q ≡ loaded_of (loading table demands) → Err (Load q) ≡ answer_of (judging table demands grants)
+  load_told {q = q} d = go (loading table demands) refl d
     where
-      go : (o : LoadOutcome) → loading table demands ≡ o → loads.Refused q ≡ loaded_of o → judged.Refused (Load q) ≡ answer_of (judging table demands grants)
-      go (accepted r) is told = absurd (let z : ◌≡◌ {A = ℕ} 0 1 = cc in omega arith)
-      go (refused p) is told = let same : q ≡ p = cc in ap (λ (x : LoadRefusal). judged.Refused (Load x)) same ∙ sym (ap answer_of (judging_is is ∙ by_refusal p))
+      go : (o : LoadOutcome) → loading table demands ≡ o → Err q ≡ loaded_of o → Err (Load q) ≡ answer_of (judging table demands grants)
+      go (accepted r) is told = absurd (cc)
+      go (refused p) is told = let same : q ≡ p = cc in ap (λ (x : LoadRefusal). Err (Load x)) same ∙ sym (ap answer_of (judging_is is ∙ by_refusal p))
 
   -- ---- A room that is loaded
 
@@ -55,9 +51,9 @@ module _ (table demands grants : List ℕ) where
     by_verdict e = rw (eq-eqb (length grants) (room_cords r) e) refl
 
   module _ {counts : Counts} (f : RoomFound table demands counts) where
-    pub count-told : (length grants ≡ counts.cords → ⊥) → judged.Refused (GrantCount counts.cords) ≡ answer_of (judging table demands grants)
+    pub count-told : (length grants ≡ counts.cords → ⊥) → Err (GrantCount counts.cords) ≡ answer_of (judging table demands grants)
     count-told n =
-        ap (λ (k : ℕ). judged.Refused (GrantCount k)) (cords-count f)
+        ap (λ (k : ℕ). Err (GrantCount k)) (cords-count f)
         ∙ sym (ap answer_of (judging_is f.accepts ∙ by_count f.room (λ e. n (e ∙ sym (cords-count f)))))
 
     -- What is said of the room found is said of the table's.
@@ -77,6 +73,7 @@ module _ (table demands grants : List ℕ) where
     nodes-given {beneath} e = record {
       good_table = found_good f;
       nodes-fit = nodes-fit f;
+      few = nodes_few f;
       beneath_long = le_of_eq (lows_long table beneath e);
       beneath_is = lows-told table beneath e;
     }
@@ -85,6 +82,6 @@ module _ (table demands grants : List ℕ) where
       pub grants_fit : CordsFit table (length grants)
       grants_fit = of_found (λ r. length grants ≡ room_cords r) (size ∙ cords-count f)
 
-      pub verdict-told : {v : Verdict} → ((r : Room) (end : ℕ) → checked table 0 ≡ good r end → v ≡ verdict r demands grants) → judged.Accepted v ≡ answer_of (judging table demands grants)
+      pub verdict-told : {v : Verdict} → ((r : Room) (end : ℕ) → checked table 0 ≡ good r end → v ≡ verdict r demands grants) → Ok v ≡ answer_of (judging table demands grants)
       verdict-told is =
-          ap judged.Accepted (is f.room f.end f.is) ∙ sym (ap answer_of (judging_is f.accepts ∙ by_verdict f.room (size ∙ cords-count f)))
+          ap Ok (is f.room f.end f.is) ∙ sym (ap answer_of (judging_is f.accepts ∙ by_verdict f.room (size ∙ cords-count f)))

@@ -1,30 +1,25 @@
 -- What the C call of Judge returns and leaves, from what the functions that it calls ensure.
 use mathlib.Core.Path.{◌≡◌, refl, sym, ap, ap₂, ◌∙◌}
 use mathlib.Core.Bool.{Bool, true, false}
-use mathlib.Core.List.{List, [], ◌∷◌}
+use mathlib.Core.List.{List}
 use Prim.Native.Nat.{ℕ, suc, ◌/◌, ◌≤◌, ◌<◌, min}
 use native.Mathlib.Omega.{arith}
 use borrow.Author.Tests.{eqb-true, eqb-false, ne_eqb}
 use lib.Dec.{eqb}
 use lib.ListN.{length, take}
-use lib.Seq.{sets, length-sets, length-take-le, take_all}
+use lib.Seq.{sets, take_all}
 use Rattle.outcomes.specs.Outcome.{accepted, refused, unless}
 use Rattle.outcomes.proofs.Outcomes.{accepted_is}
-use Rattle.words.specs.Bytes.{words_of, number_stored}
+use Rattle.words.specs.Bytes.{words_of}
 use Rattle.words.proofs.Bytes.{take-loaded}
 use Rattle.calls.specs.Call.{answered}
-use Rattle.calls.proofs.Calls.{answered_long, number_more, call_done}
+use Rattle.calls.proofs.Calls.{call_done}
 use Rattle.rooms.specs.Table.{Room, most_servers, most_cords, most_words, room_cords}
 use Rattle.layout.specs.Outcome.{LoadOutcome, loading}
 use Rattle.layout.specs.declared.room.LoadRefusal.{LoadRefusal}
 use Rattle.layout.proofs.Loads.{count_cut, bytes_loading, bytes_demands, outcome_found, found_accepted}
-use Rattle.deals.specs.Judge.{verdict_number, verdict_names, verdict_rank}
-use Rattle.deals.specs.declared.Verdict.{Verdict}
-use Rattle.judge.specs.Outcome.{judge_loaded, judging, answer_of, judge_refusal_number, judge_refusal_place}
+use Rattle.judge.specs.Outcome.{JudgeOutcome, judge_loaded, judging, answer_of}
 use Rattle.judge.specs.Call.{judged_numbers, JudgeCall}
-use Rattle.judge.specs.declared.JudgeRefusal.{JudgeRefusal}
-use Rattle.judge.specs.declared.Judged.{Judged}
-use Rattle.judge.specs.declared.Judged.TheVariants.{Accepted, Refused}
 
 -- ---- Grants that are cut
 
@@ -50,24 +45,6 @@ load_refused : (q : LoadRefusal) (demands grants demands' grants' : List ℕ) �
 unfolding judge_loaded
 load_refused q demands grants demands' grants' = refl
 
--- Words that were loaded stand in their list.
-pub loaded-front : (bytes list list' : List ℕ) {n : ℕ} → n ≡ min (length bytes / 4) (length list) → list' ≡ sets list 0 (words_of bytes) → n ≡ length (take n list')
-loaded-front bytes list list' {n = n} e s = sym (length-take-le n list' (omega (arith, ap length s, length-sets list 0 (words_of bytes))))
-
--- ---- The answer
-
-module _ (answer : List ℕ) (long : 32 ≤ length answer) where
-  pub refused_numbers : (q : JudgeRefusal) {number place : ℕ} {answer' : List ℕ} → number ≡ judge_refusal_number q → place ≡ judge_refusal_place q
-      → answer' ≡ answered 2 (number ∷ place ∷ []) answer → answer' ≡ answered 4 (judged_numbers (Refused q)) answer
-  refused_numbers q n p a =
-      a ∙ rw (n, p) (answered_long 2 answer (judged_numbers (Refused q)) (omega arith) ∙ sym (answered_long 4 answer (judged_numbers (Refused q)) (omega arith)))
-
-  pub accepted_numbers : (v : Verdict) {number names rank : ℕ} {a b : List ℕ} → number ≡ verdict_number v → names ≡ verdict_names v → rank ≡ verdict_rank v
-      → a ≡ answered 3 (0 ∷ number ∷ names ∷ []) answer → b ≡ number_stored rank a 24 → b ≡ answered 4 (judged_numbers (Accepted v)) answer
-  accepted_numbers v {number} {names} {rank} n m k ea eb =
-      number_more answer (0 ∷ number ∷ names ∷ []) rank 24 refl (omega arith) (ea ∙ answered_long 3 answer (0 ∷ number ∷ names ∷ []) (omega arith)) eb
-      ∙ rw (n, m, k) (sym (answered_long 4 answer (judged_numbers (Accepted v)) (omega arith)))
-
 -- ---- The call
 
 -- The first words of each list are loaded, and decide.
@@ -92,6 +69,7 @@ module _ (table words demands figures grants watts answer : List ℕ) (w : suc m
       ap (λ (o : LoadOutcome). judge_loaded o (take fn figures') (take kn watts')) (bytes_loading table demands words figures w f wn_is words_are fn_is figures_are)
       ∙ by_load (loading (words_of table) (words_of demands)) refl
 
-  pub call_told : {told : Judged} {answer' : List ℕ} → 32 ≤ length answer → told ≡ answer_of (judging (take wn words') (take fn figures') (take kn watts'))
-      → answer' ≡ answered 4 (judged_numbers told) answer → JudgeCall table demands grants answer 1 answer'
-  call_told h t a = call_done _ answer _ h tt (a ∙ ap (λ (x : Judged). answered 4 (judged_numbers x) answer) (t ∙ ap answer_of loaded))
+  pub call_told : {numbers : List ℕ} {answer' : List ℕ} → 32 ≤ length answer
+      → numbers ≡ judged_numbers (answer_of (judging (take wn words') (take fn figures') (take kn watts')))
+      → answer' ≡ answered 4 numbers answer → JudgeCall table demands grants answer 1 answer'
+  call_told h t a = call_done _ answer _ h tt (a ∙ ap (λ (l : List ℕ). answered 4 l answer) (t ∙ ap (λ (o : JudgeOutcome). judged_numbers (answer_of o)) loaded))

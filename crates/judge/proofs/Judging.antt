@@ -3,9 +3,11 @@ use mathlib.Core.Path.{◌≡◌, refl, sym, ap, ap₂, ◌∙◌}
 use mathlib.Core.Bool.{Bool, true, false, cond, ◌&&◌}
 use mathlib.Core.List.{List, []}
 use Prim.Native.Nat.{ℕ, zero, suc, ◌+◌, ◌-◌, ◌≤◌, ◌<◌, min, zero-le}
+use native.Mathlib.Numerals.{add-one}
 use native.Mathlib.Omega.{arith}
 use lib.Dec.{eqb, leb, ltb, leb-zero}
 use lib.ListN.{length}
+use Rattle.std.specs.Prelude.{Option, None, Some}
 use borrow.Author.Tests.{eqb-true, ltb-false}
 use Rattle.figures.specs.Figures.{at}
 use Rattle.figures.specs.Sums.{on, sum}
@@ -15,7 +17,7 @@ use Rattle.rooms.specs.Limits.{limit, node_at, parent_of, lows_beneath, first_no
 use Rattle.rooms.specs.Lists.{parents_of, limits_of, nodes_of, levels_of, lows_of}
 use Rattle.rooms.proofs.Accepted.{Accepted}
 use Rattle.rooms.proofs.Credits.{tree_sum_step}
-use Rattle.rooms.proofs.Search.{first_node_cong, first_node_none, first_node_first}
+use Rattle.rooms.proofs.Search.{NoneIn, FirstAt, first_node_cong, first_node_none, first_node_first}
 use Rattle.deals.specs.Wants.{first_wants}
 use Rattle.deals.specs.Metrics.{Deal, deal_from, deal_of}
 use Rattle.deals.specs.SecondDeal.{first_deal}
@@ -32,26 +34,27 @@ use Rattle.deals.proofs.Bounds.{bounded}
 use Rattle.deals.proofs.Judged.{at_first_none, at_first_some}
 use Rattle.deals.proofs.JudgedTotals.{ltb_both, most_over, most_step, first, first_dealable, short_at_is}
 use Rattle.deals.proofs.JudgedTotals as totals
-use Rattle.judge_totals.specs.Totals.{GrantedCords, over_low, on_node, from_level, over_from, IsMostFrom, less_than, Compared}
+use Rattle.judge_totals.specs.declared.Notes.{Notes}
+use Rattle.judge_totals.specs.Totals.{place_of, GrantedCords, over_low, on_node, from_level, over_from, IsMostFrom, less_than, Compared}
 use Rattle.judge.specs.Lists.{CordsPass}
 use Rattle.rooms.specs.Trees.{beneath, sum_beneath, child_sum}
 
 -- ---- Searches
 
-module _ (count : ℕ) (test : ℕ → Bool) (named : ℕ → Verdict) (otherwise : Verdict) where
-  at_first_zero : {found : ℕ} → found ≡ first_node count 0 test → found ≡ 0 → at_first count 0 test named otherwise ≡ otherwise
-  at_first_zero f z = at_first_none count 0 test named otherwise (first_node_none count 0 test (sym f ∙ z))
+-- Where a search finds no place, its number is 0; a place that it finds is the first at which the test holds.
+pub no_number : {number : ℕ} → None ≡ place_of number → number ≡ 0
+no_number {number = zero} e = refl
+no_number {number = suc place} e = absurd (cc)
 
-  at_first_found : {found : ℕ} → found ≡ first_node count 0 test → (found ≡ 0 → ⊥) → named (found - 1) ≡ at_first count 0 test named otherwise
-  at_first_found {found = zero} f n = absurd (n refl)
-  at_first_found {found = suc p} f n =
-      let e : suc p - 1 ≡ p = omega arith in
-      ap named e ∙ sym (at_first_some count 0 test named otherwise p (first_node_first count 0 test p (sym f)))
+none_found : (count : ℕ) (test : ℕ → Bool) → None ≡ place_of (first_node count 0 test) → NoneIn test 0 (0 + count)
+none_found count test e = first_node_none count 0 test (no_number e)
 
--- A number that is found is that of a place searched.
-pub found_within : (count : ℕ) (test : ℕ → Bool) {found : ℕ} → found ≡ first_node count 0 test → (found ≡ 0 → ⊥) → found - 1 < count
-found_within count test {found = zero} f n = absurd (n refl)
-found_within count test {found = suc p} f n = omega (arith, (first_node_first count 0 test p (sym f)).within)
+some_found : (count : ℕ) (test : ℕ → Bool) {place : ℕ} → Some place ≡ place_of (first_node count 0 test) → FirstAt test count 0 place
+some_found count test {place} e = go (first_node count 0 test) refl e
+  where
+    go : (number : ℕ) → first_node count 0 test ≡ number → Some place ≡ place_of number → FirstAt test count 0 place
+    go zero is e = absurd (cc)
+    go (suc found) is e = let same : found ≡ place = cc in first_node_first count 0 test place (is ∙ ap suc same)
 
 highest_cong : (s t : ℕ → Bool) (k : ℕ) → ((j : ℕ) → j < k → s (suc j) ≡ t (suc j)) → highest s k ≡ highest t k
 unfolding highest
@@ -91,7 +94,7 @@ module _ (r : Room) (ok : Accepted r) {parents spare : List ℕ} (lists : RoomNo
 
   -- ---- Cords that pass
 
-  module _ {demands grants : List ℕ} {count : ℕ} {given raised wanting : List ℕ} (pass : CordsPass r demands grants count given raised wanting) where
+  module _ {demands grants : List ℕ} {notes : Notes} (pass : CordsPass r demands grants notes) where
     abbrev nodes : List ℕ
     nodes = nodes_of r
 
@@ -199,7 +202,7 @@ module _ (r : Room) (ok : Accepted r) {parents spare : List ℕ} (lists : RoomNo
         = ap (λ (x : ℕ). x + deal_beneath d n d.low) over ∙ sym (over_and_lows n) in
         sym (ltb_both (at spare n) (over_from parents nodes levels lows grants 0 n) (deal_beneath d n d.low)) ∙ ap₂ ltb (spare_is n l) given
 
-    short-rank : {over : ℕ} {short : List ℕ} → Compared parents spare nodes levels lows wants grants over short → over ≡ 0
+    short-rank : {over : Option ℕ} {short : List ℕ} → Compared parents spare nodes levels lows wants grants over short → over ≡ None
         → (n : ℕ) → n < length r.nodes → parent_of r n ≡ 0 → at short n ≡ short_rank r demands grants n
     unfolding short_rank
     short-rank compared none n l top =
@@ -210,21 +213,21 @@ module _ (r : Room) (ok : Accepted r) {parents spare : List ℕ} (lists : RoomNo
         = rw e (ap (λ (x : ℕ). ltb x (most_over d able j n)) (over_is j n l)) in
         less ∙ sym (short_at_is r ok demands grants least n l top j h))
 
-    module _ {over : ℕ} {short : List ℕ} (compared : Compared parents spare nodes levels lows wants grants over short) where
-      pub over_found : over ≡ first_node (length r.nodes) 0 (over_limit r grants)
+    module _ {over : Option ℕ} {short : List ℕ} (compared : Compared parents spare nodes levels lows wants grants over short) where
+      over_found : over ≡ place_of (first_node (length r.nodes) 0 (over_limit r grants))
       over_found =
           compared.over_is
-          ∙ ap (λ (k : ℕ). first_node k 0 (λ n. ltb (at spare n) (over_from parents nodes levels lows grants 0 n))) nodes_are
-          ∙ first_node_cong (length r.nodes) 0 _ _ (λ n l. over-limit n (omega arith))
+          ∙ ap (λ (k : ℕ). place_of (first_node k 0 (λ n. ltb (at spare n) (over_from parents nodes levels lows grants 0 n)))) nodes_are
+          ∙ ap place_of (first_node_cong (length r.nodes) 0 _ _ (λ n l. over-limit n (omega arith)))
 
-      pub root_found : over ≡ 0 → {root : ℕ} → root ≡ first_node (length parents) 0 (λ n. eqb (at parents n) 0 && ltb 0 (at short n))
-          → root ≡ first_node (length r.nodes) 0 (short_root r demands grants)
+      root_found : over ≡ None → {root : Option ℕ} → root ≡ place_of (first_node (length parents) 0 (λ n. eqb (at parents n) 0 && ltb 0 (at short n)))
+          → root ≡ place_of (first_node (length r.nodes) 0 (short_root r demands grants))
       root_found none f =
-          f ∙ ap (λ (k : ℕ). first_node k 0 (λ n. eqb (at parents n) 0 && ltb 0 (at short n))) nodes_are
-          ∙ first_node_cong (length r.nodes) 0 _ _ (λ n l.
+          f ∙ ap (λ (k : ℕ). place_of (first_node k 0 (λ n. eqb (at parents n) 0 && ltb 0 (at short n)))) nodes_are
+          ∙ ap place_of (first_node_cong (length r.nodes) 0 _ _ (λ n l.
           ap (λ (x : ℕ). eqb x 0 && ltb 0 (at short n)) (parent-at n)
           ∙ and_cong (eqb (parent_of r n) 0) (ltb 0 (at short n)) (ltb 0 (short_rank r demands grants n))
-          (λ t. ap (ltb 0) (short-rank compared none n (omega arith) (eqb-true (parent_of r n) 0 t))))
+          (λ t. ap (ltb 0) (short-rank compared none n (omega arith) (eqb-true (parent_of r n) 0 t)))))
 
       -- ---- The verdict, where no cord fails
 
@@ -237,51 +240,51 @@ module _ (r : Room) (ok : Accepted r) {parents spare : List ℕ} (lists : RoomNo
       past_cords : verdict r demands grants ≡ of_limits
       unfolding verdict
       past_cords =
-          at_first_zero (room_cords r) (below_low r grants) BelowLow (at_first (room_cords r) 0 (above_want r demands grants) AboveWant of_limits) (sym pass.none_below) refl
-          ∙ at_first_zero (room_cords r) (above_want r demands grants) AboveWant of_limits (sym pass.none_above) refl
+          at_first_none (room_cords r) 0 (below_low r grants) BelowLow (at_first (room_cords r) 0 (above_want r demands grants) AboveWant of_limits)
+          (first_node_none (room_cords r) 0 (below_low r grants) pass.none_below)
+          ∙ at_first_none (room_cords r) 0 (above_want r demands grants) AboveWant of_limits (first_node_none (room_cords r) 0 (above_want r demands grants) pass.none_above)
 
-      pub is_over : (over ≡ 0 → ⊥) → OverLimit over ≡ verdict r demands grants
-      is_over n =
-          let e : over ≡ suc (over - 1) = number over n in
-          ap OverLimit e ∙ at_first_found (length r.nodes) (over_limit r grants) (λ n. OverLimit (suc n)) of_short over_found n ∙ sym past_cords
-        where
-          number : (x : ℕ) → (x ≡ 0 → ⊥) → x ≡ suc (x - 1)
-          number zero n = absurd (n refl)
-          number (suc x) n = omega arith
+      pub is_over : {place : ℕ} → over ≡ Some place → OverLimit (place + 1) ≡ verdict r demands grants
+      is_over {place} e =
+          ap OverLimit (add-one place)
+          ∙ sym (at_first_some (length r.nodes) 0 (over_limit r grants) (λ n. OverLimit (suc n)) of_short place (some_found (length r.nodes) (over_limit r grants) (sym e ∙ over_found)))
+          ∙ sym past_cords
 
-      past_limits : over ≡ 0 → verdict r demands grants ≡ of_short
-      past_limits z = past_cords ∙ at_first_zero (length r.nodes) (over_limit r grants) (λ n. OverLimit (suc n)) of_short over_found z
+      past_limits : over ≡ None → verdict r demands grants ≡ of_short
+      past_limits z =
+          past_cords
+          ∙ at_first_none (length r.nodes) 0 (over_limit r grants) (λ n. OverLimit (suc n)) of_short (none_found (length r.nodes) (over_limit r grants) (sym z ∙ over_found))
 
-      pub is-short : over ≡ 0 → {root : ℕ} → root ≡ first_node (length parents) 0 (λ n. eqb (at parents n) 0 && ltb 0 (at short n)) → (root ≡ 0 → ⊥)
-          → {rank : ℕ} → rank ≡ at short (root - 1) → Short root rank ≡ verdict r demands grants
-      is-short z {root = zero} f n k = absurd (n refl)
-      is-short z {root = suc p} f n {rank = rank} k =
-          let g = root_found z f in
-          let first_at = first_node_first (length r.nodes) 0 (short_root r demands grants) p (sym g) in
-          let e : suc p - 1 ≡ p = omega arith in
-          let top = eqb-true (parent_of r p) 0 (and_left (eqb (parent_of r p) 0) (ltb 0 (short_rank r demands grants p)) first_at.holds) in
-          let is : rank ≡ short_rank r demands grants p = k ∙ ap (at short) e ∙ short-rank compared z p (omega (arith, first_at.within)) top in
-          ap (Short (suc p)) is
-          ∙ sym (at_first_some (length r.nodes) 0 (short_root r demands grants) (λ n. Short (suc n) (short_rank r demands grants n)) Passes p first_at)
-          ∙ sym (past_limits z)
-        where
-          and_left : (s t : Bool) → s && t ≡ true → s ≡ true
-          and_left true t e = refl
-          and_left false t e = e
+      module _ (z : over ≡ None) {root : Option ℕ} (f : root ≡ place_of (first_node (length parents) 0 (λ n. eqb (at parents n) 0 && ltb 0 (at short n)))) where
+        pub is-short : {place : ℕ} → root ≡ Some place → {rank : ℕ} → rank ≡ at short place → Short (place + 1) rank ≡ verdict r demands grants
+        is-short {place} e {rank = rank} k =
+            let first_at = some_found (length r.nodes) (short_root r demands grants) (sym e ∙ root_found z f) in
+            let top = eqb-true (parent_of r place) 0 (and_left (eqb (parent_of r place) 0) (ltb 0 (short_rank r demands grants place)) first_at.holds) in
+            let is : rank ≡ short_rank r demands grants place = k ∙ short-rank compared z place (omega (arith, first_at.within)) top in
+            ap₂ Short (add-one place) is
+            ∙ sym (at_first_some (length r.nodes) 0 (short_root r demands grants) (λ n. Short (suc n) (short_rank r demands grants n)) Passes place first_at)
+            ∙ sym (past_limits z)
+          where
+            and_left : (s t : Bool) → s && t ≡ true → s ≡ true
+            and_left true t e = refl
+            and_left false t e = e
 
-      pub is_passes : over ≡ 0 → {root : ℕ} → root ≡ first_node (length parents) 0 (λ n. eqb (at parents n) 0 && ltb 0 (at short n)) → root ≡ 0
-          → Passes ≡ verdict r demands grants
-      is_passes z f n = sym (at_first_zero (length r.nodes) (short_root r demands grants) (λ n. Short (suc n) (short_rank r demands grants n)) Passes (root_found z f) n) ∙ sym (past_limits z)
+        pub is_passes : root ≡ None → Passes ≡ verdict r demands grants
+        is_passes n =
+            sym (at_first_none (length r.nodes) 0 (short_root r demands grants) (λ n. Short (suc n) (short_rank r demands grants n)) Passes
+            (none_found (length r.nodes) (short_root r demands grants) (sym n ∙ root_found z f)))
+            ∙ sym (past_limits z)
 
 -- ---- The verdict, where a cord fails
 
 module _ (r : Room) (demands grants : List ℕ) where
-  pub is_below : {below : ℕ} → below ≡ first_node (room_cords r) 0 (below_low r grants) → (below ≡ 0 → ⊥) → BelowLow (below - 1) ≡ verdict r demands grants
+  pub is_below : {cord : ℕ} → Some cord ≡ place_of (first_node (room_cords r) 0 (below_low r grants)) → BelowLow cord ≡ verdict r demands grants
   unfolding verdict
-  is_below b n = at_first_found (room_cords r) (below_low r grants) BelowLow _ b n
+  is_below {cord} b = sym (at_first_some (room_cords r) 0 (below_low r grants) BelowLow _ cord (some_found (room_cords r) (below_low r grants) b))
 
-  pub is_above : {below above : ℕ} → below ≡ first_node (room_cords r) 0 (below_low r grants) → below ≡ 0
-      → above ≡ first_node (room_cords r) 0 (above_want r demands grants) → (above ≡ 0 → ⊥) → AboveWant (above - 1) ≡ verdict r demands grants
+  pub is_above : {cord : ℕ} → None ≡ place_of (first_node (room_cords r) 0 (below_low r grants))
+      → Some cord ≡ place_of (first_node (room_cords r) 0 (above_want r demands grants)) → AboveWant cord ≡ verdict r demands grants
   unfolding verdict
-  is_above b z a n =
-      at_first_found (room_cords r) (above_want r demands grants) AboveWant _ a n ∙ sym (at_first_zero (room_cords r) (below_low r grants) BelowLow _ b z)
+  is_above {cord} z a =
+      sym (at_first_some (room_cords r) 0 (above_want r demands grants) AboveWant _ cord (some_found (room_cords r) (above_want r demands grants) a))
+      ∙ sym (at_first_none (room_cords r) 0 (below_low r grants) BelowLow _ (none_found (room_cords r) (below_low r grants) z))

@@ -1,5 +1,5 @@
 -- Judge: what it comes to. No list is written.
-use Rattle.std.specs.Prelude.{not, List, [], ◌∷◌, ℕ, eqb, length}
+use Rattle.std.specs.Prelude.{not, List, [], ◌∷◌, ℕ, eqb, length, Result, Ok, Err}
 use Rattle.outcomes.specs.Outcome.{Outcome, accepted, refused, Reason, unless}
 use Rattle.rooms.specs.Table.{Room, room_cords}
 use Rattle.layout.specs.Outcome.{LoadOutcome, loading, load_refusal_number, load_refusal_place}
@@ -7,8 +7,6 @@ use Rattle.deals.specs.Judge.{verdict}
 use Rattle.deals.specs.declared.Verdict.{Verdict}
 use Rattle.judge.specs.declared.JudgeRefusal.{JudgeRefusal}
 use Rattle.judge.specs.declared.JudgeRefusal.TheVariants.{Load, GrantCount}
-use Rattle.judge.specs.declared.Judged.{Judged}
-use Rattle.judge.specs.declared.Judged.TheVariants.{Accepted, Refused}
 
 -- What Judge comes to: a verdict, or a refusal.
 abbrev pub JudgeOutcome : Type 0
@@ -32,9 +30,9 @@ judging table demands grants = judge_loaded (loading table demands) demands gran
 -- ---- What the caller sees
 
 -- The answer to an outcome.
-abbrev pub answer_of : JudgeOutcome → Judged
-answer_of (accepted v) = Accepted v
-answer_of (refused refusal) = Refused refusal
+abbrev pub answer_of : JudgeOutcome → Result Verdict JudgeRefusal
+answer_of (accepted v) = Ok v
+answer_of (refused refusal) = Err refusal
 
 -- A refusal's number and its place: that of the table or the demands, or the count of cords.
 abbrev pub judge_refusal_number : JudgeRefusal → ℕ

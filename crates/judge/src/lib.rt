@@ -5,17 +5,19 @@ ghost use Rattle.std.specs.Prelude.{◌≡◌, List, ℕ, suc, ◌≤◌, length
 ghost use Rattle.rooms.specs.Table.{most_nodes, most_servers, most_cords, most_words};
 ghost use Rattle.rooms.specs.Rows.{OfRoom, ServersFit, CordsFit, ScaleIs};
 ghost use Rattle.deals.specs.Judge.{verdict};
-ghost use Rattle.calls.specs.Call.{answered};
+ghost use Rattle.calls.specs.Call.{told_numbers};
 ghost use Rattle.judge.specs.Outcome.{judging, answer_of, judge_refusal_number, judge_refusal_place};
-ghost use Rattle.judge.specs.Call.{judged_numbers, JudgeCall};
+ghost use Rattle.judge.specs.Call.{verdict_figures, judged_numbers, JudgeCall};
 ghost use Rattle.judge.specs.Lists.{NodesGiven, CordsPass, SomePass};
+ghost use Rattle.judge.specs.declared.JudgeRefusal.TheVariants.{Load};
 
+use calls::Figures;
 use deals::Verdict;
 use demands::DECIDING_DEMANDS;
-use figures::index;
-use judge_totals::{lowest_marked, note_cords, note_nodes};
+use judge_totals::{Notes, lowest_marked, note_cords, note_nodes};
 use layout::load_nodes;
-use layout::room::{Counts, LoadRefusal, Loaded, admit};
+use layout::room::{Counts, LoadRefusal, admit};
+use outcomes::Refusal;
 use rooms::{DECIDING_WORDS, HIGHEST_RANK, MOST_CORDS, MOST_NODES};
 
 // One more grant than a room has cords: so many decide every answer.
@@ -25,24 +27,19 @@ const DECIDING_GRANTS: usize = MOST_CORDS + 1;
 const JUDGE_ANSWER_BYTES: usize = 32;
 
 // Why a list is turned back, and where: the refusal of the table or of its servers' demands, or the count of cords.
-#[derive(Clone, Copy)]
+#[derive(Clone, Copy, PartialEq, Eq)]
 pub enum JudgeRefusal {
     Load(LoadRefusal),
     GrantCount(usize),
 }
 
-// What judging comes to: a verdict, or why the list is turned back.
-#[derive(Clone, Copy)]
-pub enum Judged {
-    Accepted(Verdict),
-    Refused(JudgeRefusal),
-}
+impl Refusal for JudgeRefusal {
+    ghost number_of = { judge_refusal_number };
 
-impl JudgeRefusal {
+    ghost place_of = { judge_refusal_place };
+
     // The refusal's number.
-    pub fn number(self) -> u64
-        ensures result { result ≡ judge_refusal_number self }
-    {
+    fn number(self) -> u64 {
         match self {
             JudgeRefusal::Load(refusal) => refusal.number(),
             JudgeRefusal::GrantCount(_) => 21,
@@ -50,48 +47,56 @@ impl JudgeRefusal {
     }
 
     // The refusal's place.
-    pub fn place(self) -> usize
-        ensures result { result ≡ judge_refusal_place self }
-    {
+    fn place(self) -> u64 {
         match self {
             JudgeRefusal::Load(refusal) => refusal.place(),
-            JudgeRefusal::GrantCount(place) => place,
+            JudgeRefusal::GrantCount(place) => place as u64,
         }
+    }
+}
+
+impl From<LoadRefusal> for JudgeRefusal {
+    ghost from_gives = { λ refusal told. told ≡ Load refusal };
+
+    fn from(refusal: LoadRefusal) -> JudgeRefusal {
+        JudgeRefusal::Load(refusal)
+    }
+}
+
+// A verdict, as the answer of the C call has it.
+#[derive(Clone, Copy)]
+struct Told(Verdict);
+
+impl Figures<3> for Told {
+    ghost figures_of = { λ told. verdict_figures told.0 };
+
+    fn figures(self) -> [u64; 3] {
+        let verdict = self.0;
+        [
+            verdict.number(),
+            verdict.names() as u64,
+            verdict.rank() as u64,
+        ]
     }
 }
 
 // The verdict on grants that no cord has too little or too much of, by the notes of a good table's cords on their nodes. `beneath` has the
 // lows beneath each node, as the check of the table leaves them.
-fn judge_nodes(
-    table: &[u32],
-    nodes: usize,
-    beneath: &[u64],
-    given: &mut [u64],
-    raised: &mut [u16],
-    wanting: &mut [u16],
-) -> Verdict
+fn judge_nodes(table: &[u32], nodes: usize, beneath: &[u64], notes: &mut Notes) -> Verdict
     requires table { NodesGiven table.now nodes beneath.now }
-    requires lengths { (most_nodes ≤ length given.old) × (length given.old ≤ length raised.old)
-        × (length given.old ≤ length wanting.old) }
-    requires noted { SomePass table.now (length given.old) given.old raised.old wanting.old }
-    ensures result { OfRoom table.now (λ r. (demands grants : List ℕ) → CordsPass r demands grants (length given.old)
-        given.old raised.old wanting.old → result ≡ verdict r demands grants) }
+    requires noted { SomePass table.now notes.old }
+    ensures result { OfRoom table.now (λ r. (demands grants : List ℕ) → CordsPass r demands grants notes.old → result ≡ verdict r demands grants) }
 {
     let mut parents = [0u16; MOST_NODES];
     let mut spare = [0u32; MOST_NODES];
-    load_nodes(
-        table,
-        &beneath[..nodes],
-        &mut parents[..nodes],
-        &mut spare[..nodes],
-    );
-    let over = note_nodes(&parents[..nodes], &spare[..nodes], given, raised, wanting);
-    if over != 0 {
-        return Verdict::OverLimit(over);
+    let parents = &mut parents[..nodes];
+    let spare = &mut spare[..nodes];
+    load_nodes(table, &beneath[..nodes], parents, spare);
+    if let Some(over) = note_nodes(parents, spare, notes) {
+        return Verdict::OverLimit(over + 1);
     }
-    let root = lowest_marked(&parents[..nodes], wanting);
-    if root != 0 {
-        return Verdict::Short(root, index(wanting[root - 1]));
+    if let Some(root) = lowest_marked(parents, &notes.wanting) {
+        return Verdict::Short(root + 1, usize::from(notes.wanting[root]));
     }
     Verdict::Passes
 }
@@ -108,52 +113,39 @@ fn judge_room(
     requires sizes { ServersFit table.now (length demands.now) × CordsFit table.now (length grants.now) }
     ensures result { OfRoom table.now (λ r. result ≡ verdict r demands.now grants.now) }
 {
-    let mut given = [0u64; MOST_NODES];
-    let mut raised = [HIGHEST_RANK; MOST_NODES];
-    let mut wanting = [0u16; MOST_NODES];
-    let faults = note_cords(
-        table,
-        demands,
-        grants,
-        counts.scale,
-        &mut given,
-        &mut raised,
-        &mut wanting,
-    );
-    let below = faults.below;
-    if below != 0 {
-        return Verdict::BelowLow(below - 1);
+    let mut notes = Notes {
+        given: [0; MOST_NODES],
+        raised: [HIGHEST_RANK; MOST_NODES],
+        wanting: [0; MOST_NODES],
+    };
+    let faults = note_cords(table, demands, grants, counts.scale, &mut notes);
+    if let Some(cord) = faults.below {
+        return Verdict::BelowLow(cord);
     }
-    let above = faults.above;
-    if above != 0 {
-        return Verdict::AboveWant(above - 1);
+    if let Some(cord) = faults.above {
+        return Verdict::AboveWant(cord);
     }
-    judge_nodes(
-        table,
-        counts.nodes,
-        beneath,
-        &mut given,
-        &mut raised,
-        &mut wanting,
-    )
+    judge_nodes(table, counts.nodes, beneath, &mut notes)
 }
 
 // Judge: the verdict on a list of grants, of a table and its servers' demands; or why it is turned back.
-pub fn judge(table: &[u32], demands: &[u32], grants: &[u32]) -> Judged
+pub fn judge(table: &[u32], demands: &[u32], grants: &[u32]) -> Result<Verdict, JudgeRefusal>
     ensures result { result ≡ answer_of (judging table.now demands.now grants.now) }
 {
     let mut beneath = [0u64; MOST_NODES];
-    let loaded = admit(table, demands, &mut beneath);
-    match loaded {
-        Loaded::Good(counts) => {
-            let cords = counts.cords;
-            if grants.len() != cords {
-                return Judged::Refused(JudgeRefusal::GrantCount(cords));
-            }
-            Judged::Accepted(judge_room(table, demands, grants, counts, &beneath))
-        }
-        Loaded::Refused(refusal) => Judged::Refused(JudgeRefusal::Load(refusal)),
+    let counts = admit(table, demands, &mut beneath)?;
+    if grants.len() != counts.cords {
+        return Err(JudgeRefusal::GrantCount(counts.cords));
     }
+    Ok(judge_room(table, demands, grants, counts, &beneath))
+}
+
+// The same, as the answer of the C call has it.
+fn judge_told(table: &[u32], demands: &[u32], grants: &[u32]) -> Result<Told, JudgeRefusal>
+    ensures told { told_numbers (λ told. verdict_figures told.0) judge_refusal_number judge_refusal_place result
+        ≡ judged_numbers (answer_of (judging table.now demands.now grants.now)) }
+{
+    Ok(Told(judge(table, demands, grants)?))
 }
 
 // Judge, called from C: lists in bytes, and the answer in a buffer of its own. Returns 1; or 0 where that buffer is too short.
@@ -195,27 +187,11 @@ fn judge_by(
     let word_count = words::load(table, words);
     let figure_count = words::load(demands, figures);
     let watt_count = words::load(grants, watts);
-    let judged = judge(
+    let judged = judge_told(
         &words[..word_count],
         &figures[..figure_count],
         &watts[..watt_count],
     );
-    tell(judged, answer);
+    calls::tell(judged, answer);
     1
-}
-
-// The answer, at the front of its buffer, which has space for it.
-fn tell(judged: Judged, answer: &mut [u8])
-    requires long { 32 ≤ length answer.old }
-    ensures told { answer.new ≡ answered 4 (judged_numbers judged) answer.old }
-{
-    match judged {
-        Judged::Accepted(verdict) => {
-            calls::store_long_answer(0, verdict.number(), verdict.names() as u64, answer);
-            words::store_number(verdict.rank() as u64, answer, 24);
-        }
-        Judged::Refused(refusal) => {
-            calls::store_answer(refusal.number(), refusal.place() as u64, answer);
-        }
-    }
 }

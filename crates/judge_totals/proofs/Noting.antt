@@ -22,7 +22,7 @@ use Rattle.rooms.specs.Limits.{first_node}
 use Rattle.rooms.specs.Credits.{tree_sum, exceeds}
 use Rattle.figures.proofs.Credits.{on_most, credited-at}
 use Rattle.rooms.proofs.Credits.{tree_sum_step}
-use Rattle.rooms.proofs.Gather.{Holds, holds_whole, Gathered, gathered_start, gathered_turn, gathered_end}
+use Rattle.rooms.proofs.Gather.{Holds, holds_whole, Gathered, gathered_start, gathered_turn}
 use Rattle.rooms.proofs.Search.{NoneIn, first_node_cong}
 use Rattle.deals.specs.Ranks.{NodeLists}
 use Rattle.judge_totals.specs.Totals.{place_of, GrantedCords, over_low, on_node, from_level, Noted, AllNoted, Unnoted, CordsNoted, noted_on, held_back, IsMost, NodesNoted, over_from, Compared}

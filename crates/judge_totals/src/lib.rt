@@ -6,7 +6,7 @@
 // has the watts that stand on and beneath it, the lowest rank that these are of, and the highest rank that could have more.
 #![tactic(auto)]
 
-ghost use Rattle.std.specs.Prelude.{◌≡◌, cond, ◌&&◌, ℕ, ◌-◌, ◌+◌, ◌^◌, ◌≤◌, ◌<◌, eqb, ltb, length};
+ghost use Rattle.std.specs.Prelude.{◌≡◌, cond, ◌&&◌, ℕ, ◌-◌, ◌+◌, ◌^◌, ◌≤◌, ◌<◌, eqb, ltb, length, IfSome};
 ghost use Rattle.figures.specs.Figures.{at};
 ghost use Rattle.figures.specs.Sums.{sum};
 ghost use Rattle.rooms.specs.Part.{Good};
@@ -31,6 +31,7 @@ pub struct Faults {
 }
 
 // What is noted on each node: watts, the lowest rank that they are of, and the highest rank that could have more.
+#[derive(Drop)]
 pub struct Notes {
     pub given: [u64; MOST_NODES],
     pub raised: [u16; MOST_NODES],
@@ -128,6 +129,7 @@ pub fn note_nodes(parents: &[u16], spare: &[u32], notes: &mut Notes) -> Option<u
     requires sums_fit { sum (length parents.now) (at notes.old.given) < 2 ^ 63 }
     ensures result { result ≡ place_of (first_node (length parents.now) 0
         (exceeds (at parents.now) (at spare.now) (length parents.now) notes.old.given)) }
+    ensures within { IfSome result (λ n. n < length parents.now) }
     ensures noted { NodesNoted parents.now spare.now result notes.old notes.new }
 {
     let mut over = None;
@@ -148,6 +150,7 @@ pub fn note_nodes(parents: &[u16], spare: &[u32], notes: &mut Notes) -> Option<u
 // The lowest root with a mark.
 pub fn lowest_marked(parents: &[u16], marks: &[u16]) -> Option<usize>
     requires lengths { length parents.now ≤ length marks.now }
+    ensures within { IfSome result (λ n. n < length parents.now) }
     ensures result { result ≡ place_of (first_node (length parents.now) 0
         (λ n. eqb (at parents.now n) 0 && ltb 0 (at marks.now n))) }
 {

@@ -1,29 +1,29 @@
 -- `judge` meets its contract: what is loaded, with a grant for each cord, is judged by the room of its table.
 use native.Mathlib.Omega.{arith}
-use Rattle.layout.proofs.Loads.{RoomFound, found, lows_long}
+use Rattle.std.proofs.lemmas.Result.{err_from_is_err_and}
+use Rattle.layout.proofs.Loads.{found}
 use Rattle.judge.proofs.Admitting.{load_told, count-told, scale_fits, servers-fit, nodes-given, grants_fit, verdict-told}
 use Rattle.judge.proofs.judge.Goals as goal
 
-pub returns-then-grants-cords : goal.returns-then-grants-cords
-returns-then-grants-cords c =
-    let room : RoomFound c.args.table.now c.args.demands.now c.in-Good.counts = found c.admit-loaded.ensures.answer c.in-Good.is in
-    record { result = count-told c.args.table.now c.args.demands.now c.args.grants.now room (λ q. absurd (omega (arith, q, c.if-grants-cords.true))) }
+pub returns-in_err-counts : goal.returns-in_err-counts
+returns-in_err-counts c =
+    let p = err_from_is_err_and c.from_residual.result c.from_residual.ensures.1 in
+    record { result = rw (p.1, p.2) (load_told _ _ _ c.in_err-counts.ensures.answer) }
 
-pub slice_bounds-judge_room-end : goal.slice_bounds-judge_room-end
-slice_bounds-judge_room-end c = lows_long c.args.table.now _ c.admit-loaded.ensures.lows
+pub returns-then-grants-counts : goal.returns-then-grants-counts
+returns-then-grants-counts c =
+    let room = found c.in_ok-counts.ensures.answer in
+    record { result = count-told c.args.table.now c.args.demands.now c.args.grants.now room (λ q. absurd (omega (arith, q, c.if-grants-counts.true))) }
 
 pub judge_room-requires : goal.judge_room-requires
 judge_room-requires c =
-    let room : RoomFound c.args.table.now c.args.demands.now c.in-Good.counts = found c.admit-loaded.ensures.answer c.in-Good.is in
+    let room = found c.in_ok-counts.ensures.answer in
     record {
-      table = (nodes-given c.args.table.now c.args.demands.now c.args.grants.now room c.admit-loaded.ensures.lows, scale_fits c.args.table.now c.args.demands.now c.args.grants.now room);
-      sizes = (servers-fit c.args.table.now c.args.demands.now c.args.grants.now room, grants_fit c.args.table.now c.args.demands.now c.args.grants.now room (omega (arith, c.if-grants-cords.false)));
+      table = (nodes-given _ _ c.args.grants.now room c.in_ok-counts.ensures.lows, scale_fits _ _ c.args.grants.now room);
+      sizes = (servers-fit _ _ c.args.grants.now room, grants_fit _ _ c.args.grants.now room (omega (arith, c.if-grants-counts.false)));
     }
 
-pub returns-else-grants-cords : goal.returns-else-grants-cords
-returns-else-grants-cords c =
-    let room : RoomFound c.args.table.now c.args.demands.now c.in-Good.counts = found c.admit-loaded.ensures.answer c.in-Good.is in
-    record { result = verdict-told c.args.table.now c.args.demands.now c.args.grants.now room (omega (arith, c.if-grants-cords.false)) c.judge_room.ensures.result }
-
-pub returns-in-Refused : goal.returns-in-Refused
-returns-in-Refused c = record { result = load_told _ _ _ c.admit-loaded.ensures.answer c.in-Refused.is }
+pub returns : goal.returns
+returns c =
+    let room = found c.in_ok-counts.ensures.answer in
+    record { result = verdict-told c.args.table.now c.args.demands.now c.args.grants.now room (omega (arith, c.if-grants-counts.false)) c.judge_room.ensures.result }

@@ -6,6 +6,8 @@ use Rattle.rooms.specs.Table.{Room, room_cords}
 use Rattle.rooms.specs.Limits.{checked}
 use Rattle.rooms.specs.Outcome.{sheet_refusal_number, sheet_refusal_place}
 use Rattle.deals.specs.Plan.{count_differs, demand_too_large}
+use Rattle.deals.specs.declared.PlanRefusal.{PlanRefusal}
+use Rattle.deals.specs.declared.PlanRefusal.TheVariants as planned
 use Rattle.layout.specs.declared.room.Counts.{Counts}
 use Rattle.layout.specs.declared.room.LoadRefusal.{LoadRefusal}
 use Rattle.layout.specs.declared.room.LoadRefusal.TheVariants.{Table, DemandCount, DemandTooLarge}
@@ -31,6 +33,12 @@ counts_of r = record { nodes = length r.nodes; servers = length r.servers; cords
 abbrev pub loaded_of : LoadOutcome → Result Counts LoadRefusal
 loaded_of (accepted r) = Ok (counts_of r)
 loaded_of (refused refusal) = Err refusal
+
+-- A refusal of the loading, as one of Plan's.
+abbrev pub refusal_of : LoadRefusal → PlanRefusal
+refusal_of (Table refusal) = planned.Table refusal
+refusal_of (DemandCount place) = planned.DemandCount place
+refusal_of (DemandTooLarge place) = planned.DemandTooLarge place
 
 -- A refusal's number and its place: that of the table, the count of servers, or a demand's index.
 abbrev pub load_refusal_number : LoadRefusal → ℕ

@@ -5,11 +5,12 @@ ghost use Rattle.outcomes.specs.Outcome.{accepted};
 ghost use Rattle.words.specs.Bytes.{words_of};
 ghost use Rattle.rooms.specs.Table.{Room};
 ghost use Rattle.rooms.specs.Limits.{checked, lows_told};
-ghost use Rattle.layout.specs.Outcome.{loading, loaded_of, load_refusal_number, load_refusal_place};
+ghost use Rattle.layout.specs.Outcome.{loading, loaded_of, refusal_of, load_refusal_number, load_refusal_place};
 ghost use Rattle.layout.specs.Room.{CountsFew, LoadSpace, RoomLoaded};
 ghost use Rattle.layout.specs.declared.room.LoadRefusal.TheVariants.{Table};
 
 use crate::{load_cords, load_nodes};
+use deals::PlanRefusal;
 use demands::DECIDING_DEMANDS;
 use figures::first_not_below;
 use outcomes::Refusal;
@@ -65,6 +66,19 @@ impl From<SheetRefusal> for LoadRefusal {
 
     fn from(refusal: SheetRefusal) -> LoadRefusal {
         LoadRefusal::Table(refusal)
+    }
+}
+
+// A refusal of the loading, as one of Plan's.
+impl From<LoadRefusal> for PlanRefusal {
+    ghost from_gives = { λ refusal told. told ≡ refusal_of refusal };
+
+    fn from(refusal: LoadRefusal) -> PlanRefusal {
+        match refusal {
+            LoadRefusal::Table(refusal) => PlanRefusal::Table(refusal),
+            LoadRefusal::DemandCount(servers) => PlanRefusal::DemandCount(servers),
+            LoadRefusal::DemandTooLarge(place) => PlanRefusal::DemandTooLarge(place),
+        }
     }
 }
 

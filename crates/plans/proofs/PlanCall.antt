@@ -22,48 +22,45 @@ use Rattle.deals.specs.declared.Lengths.{Lengths}
 use Rattle.deals.specs.declared.PlanList.{PlanList}
 use Rattle.deals.specs.declared.PlanRefusal.{PlanRefusal}
 use Rattle.deals.specs.declared.PlanRefusal.TheVariants.{DemandCount, DemandTooLarge, ListTooShort}
-use Rattle.deals.specs.declared.Planned.TheVariants as planned
+use Rattle.std.specs.Prelude.{Result, Ok, Err}
 use Rattle.deals.proofs.RoomHeadroom.{ceilings_count}
 use Rattle.deals.proofs.Plans.{lists-long, plan_room_is, plan_bad_table, plan_good_table}
-use Rattle.layout.specs.Outcome.{LoadOutcome, loading, counts_of, loaded_of}
+use Rattle.layout.specs.Outcome.{LoadOutcome, loading, counts_of, loaded_of, refusal_of}
 use Rattle.layout.specs.Room.{RoomLoaded}
 use Rattle.layout.specs.declared.room.Counts.{Counts}
-use Rattle.layout.specs.declared.room.Loaded.{Loaded}
-use Rattle.layout.specs.declared.room.Loaded.TheVariants as loads
 use Rattle.layout.specs.declared.room.LoadRefusal.{LoadRefusal}
 use Rattle.layout.proofs.Loads.{loading_good, loading_bad, RoomFound, outcome_found}
 use Rattle.plan_rooms.specs.Planning.{PlanGiven}
-use Rattle.plans.specs.Admission.{refusal_of, admitting, admission}
+use Rattle.plans.specs.Admission.{admitting, admission}
 use Rattle.plans.specs.Done.{plan_in, PlanDone}
-use Rattle.plans.specs.declared.Admission.TheVariants as admitted
 
 -- ---- The checks behind the loading, in their order
 
-module _ (loaded : Loaded) (lengths : Lengths) where
+module _ (loaded : Result Counts LoadRefusal) (lengths : Lengths) where
   -- These reasons to refuse are left, and decide.
   pub record Left (counts : Counts) (rest : List PlanReason) : Type 0 where
     pub is : admitting loaded lengths ≡ unless rest counts
 
   -- A refusal of the loading stands.
-  pub loading-told : {q : LoadRefusal} {p : PlanRefusal} → loaded ≡ loads.Refused q → p ≡ refusal_of q → admitted.Refused p ≡ admission (admitting loaded lengths)
+  pub loading-told : {q : LoadRefusal} → loaded ≡ Err q → Err (refusal_of q) ≡ admission (admitting loaded lengths)
   unfolding admitting
-  loading-told e is = rw (e, is) refl
+  loading-told e = rw e refl
 
   -- Of a room that is loaded all reasons are left.
-  pub loading-passed : {counts : Counts} → loaded ≡ loads.Good counts → Left counts (list_reasons counts.cords counts.servers lengths)
+  pub loading-passed : {counts : Counts} → loaded ≡ Ok counts → Left counts (list_reasons counts.cords counts.servers lengths)
   unfolding admitting
-  loading-passed e = record { is = ap (λ (l : Loaded). admitting l lengths) e }
+  loading-passed e = record { is = ap (λ (l : Result Counts LoadRefusal). admitting l lengths) e }
 
   -- A list is too short, and that is told; or it is not, and the others are left.
   module _ {counts : Counts} {list : PlanList} {entries needed : ℕ} {rest : List PlanReason} (left : Left counts (too_short (ListTooShort list) entries needed ∷ rest)) where
-    pub short_told : entries < needed → admitted.Refused (ListTooShort list needed) ≡ admission (admitting loaded lengths)
+    pub short_told : entries < needed → Err (ListTooShort list needed) ≡ admission (admitting loaded lengths)
     short_told h = rw (left.is ∙ unless_stop (too_short (ListTooShort list) entries needed) rest counts (lt-ltb entries needed h)) refl
 
     pub list_passed : needed ≤ entries → Left counts rest
     list_passed h = record { is = left.is ∙ unless_pass (too_short (ListTooShort list) entries needed) rest counts (le-ltb entries needed h) }
 
   -- No reason is left.
-  pub all_passed : {counts : Counts} → Left counts [] → admitted.Good counts ≡ admission (admitting loaded lengths)
+  pub all_passed : {counts : Counts} → Left counts [] → Ok counts ≡ admission (admitting loaded lengths)
   all_passed {counts} left = rw (left.is ∙ unless_none counts) refl
 
 -- ---- Plan, by what was loaded and admitted
@@ -130,22 +127,22 @@ pub record Admitted (table demands : List ℕ) (lengths : Lengths) (counts : Cou
   pub is : plan table demands lengths ≡ accepted (plan_of room_found.room demands)
   pub long : (list : PlanList) → count counts.cords counts.servers list ≤ entries lengths list
 
-module _ (table demands : List ℕ) (lengths : Lengths) {loaded : Loaded} {answer : admitted.the_data} (l : loaded ≡ loaded_of (loading table demands)) (d : answer ≡ admission (admitting loaded lengths)) where
+module _ (table demands : List ℕ) (lengths : Lengths) {loaded : Result Counts LoadRefusal} (l : loaded ≡ loaded_of (loading table demands)) where
   -- What the checks behind the loading come to.
   by_room : {r : Room} → loading table demands ≡ accepted r → admitting loaded lengths ≡ unless (list_reasons (room_cords r) (length r.servers) lengths) (counts_of r)
   unfolding admitting
-  by_room e = ap (λ (x : Loaded). admitting x lengths) (l ∙ ap loaded_of e)
+  by_room e = ap (λ (x : Result Counts LoadRefusal). admitting x lengths) (l ∙ ap loaded_of e)
 
   by_refusal : {q : LoadRefusal} → loading table demands ≡ refused q → admitting loaded lengths ≡ refused (refusal_of q)
   unfolding admitting
-  by_refusal e = ap (λ (x : Loaded). admitting x lengths) (l ∙ ap loaded_of e)
+  by_refusal e = ap (λ (x : Result Counts LoadRefusal). admitting x lengths) (l ∙ ap loaded_of e)
 
-  pub admitted_good : {counts : Counts} → answer ≡ admitted.Good counts → Admitted table demands lengths counts
-  admitted_good {counts} e = go (loading table demands) refl (admitting loaded lengths) refl (sym e ∙ d)
+  pub admitted_good : {counts : Counts} → Ok counts ≡ admission (admitting loaded lengths) → Admitted table demands lengths counts
+  admitted_good {counts} d = go (loading table demands) refl (admitting loaded lengths) refl d
     where
-      go : (o : LoadOutcome) → loading table demands ≡ o → (a : Outcome Counts PlanRefusal) → admitting loaded lengths ≡ a → admitted.Good counts ≡ admission a
+      go : (o : LoadOutcome) → loading table demands ≡ o → (a : Outcome Counts PlanRefusal) → admitting loaded lengths ≡ a → Ok counts ≡ admission a
           → Admitted table demands lengths counts
-      go o is (refused q) u told = absurd (let z : ◌≡◌ {A = ℕ} 0 1 = cc in omega arith)
+      go o is (refused q) u told = absurd (cc)
       go (refused q) is (accepted given) u told = absurd (accepted≢refused (sym u ∙ by_refusal is))
       go (accepted r) is (accepted given) u told =
           let all = sym (by_room is) ∙ u in
@@ -161,12 +158,12 @@ module _ (table demands : List ℕ) (lengths : Lengths) {loaded : Loaded} {answe
           })
 
   -- What is not admitted, Plan refuses.
-  pub admitted_refused : {q : PlanRefusal} → answer ≡ admitted.Refused q → plan table demands lengths ≡ refused q
-  admitted_refused {q} e = go (loading table demands) refl (admitting loaded lengths) refl (sym e ∙ d)
+  pub admitted_refused : {q : PlanRefusal} → Err q ≡ admission (admitting loaded lengths) → plan table demands lengths ≡ refused q
+  admitted_refused {q} d = go (loading table demands) refl (admitting loaded lengths) refl d
     where
-      go : (o : LoadOutcome) → loading table demands ≡ o → (a : Outcome Counts PlanRefusal) → admitting loaded lengths ≡ a → admitted.Refused q ≡ admission a
+      go : (o : LoadOutcome) → loading table demands ≡ o → (a : Outcome Counts PlanRefusal) → admitting loaded lengths ≡ a → Err q ≡ admission a
           → plan table demands lengths ≡ refused q
-      go o is (accepted given) u told = absurd (let z : ◌≡◌ {A = ℕ} 0 1 = cc in omega arith)
+      go o is (accepted given) u told = absurd (cc)
       go (accepted r) is (refused p) u told =
           let same : p ≡ q = cc in
           room_planned table demands lengths is ∙ other_refused (counts_of r) (plan_of r demands) (list_reasons (room_cords r) (length r.servers) lengths) (sym (by_room is) ∙ u) ∙ ap refused same
@@ -220,10 +217,10 @@ stored_again list first second {list'} same e f =
 
 module _ (table demands : List ℕ) (lent : Lists) where
   -- Refused, a list is as it was.
-  pub refused_done : {q : PlanRefusal} → plan_in table demands lent ≡ refused q → PlanDone table demands lent (planned.Refused q) lent
+  pub refused_done : {q : PlanRefusal} → plan_in table demands lent ≡ refused q → PlanDone table demands lent (Err q) lent
   refused_done e = record { answer_is = rw e refl; lists_are = λ list. rw e refl }
 
   -- Accepted, it has what the plan has for it at its front.
   pub accepted_done : {plan : Plan} {watts : ℕ} {left : Lists} → plan_in table demands lent ≡ accepted plan → watts ≡ plan.freed
-      → ((list : PlanList) → left list ≡ sets (lent list) 0 (output list plan)) → PlanDone table demands lent (planned.Accepted watts) left
+      → ((list : PlanList) → left list ≡ sets (lent list) 0 (output list plan)) → PlanDone table demands lent (Ok watts) left
   accepted_done e freed stored = record { answer_is = rw (e, freed) refl; lists_are = λ list. rw e (stored list) }

@@ -1,56 +1,38 @@
 // Plan: a room is loaded, its lists are checked, and then it is planned.
 #![tactic(auto)]
 
-ghost use Rattle.std.specs.Prelude.{◌≡◌};
+ghost use Rattle.std.specs.Prelude.{◌≡◌, ◌≤◌, ◌<◌, IfOk, IfErr};
 ghost use Rattle.deals.specs.Plan.{lists};
-ghost use Rattle.plans.specs.Admission.{refusal_of, admitting, admission};
+ghost use Rattle.layout.specs.Room.{CountsFew};
+ghost use Rattle.plans.specs.Admission.{admitting, admission};
 ghost use Rattle.plans.specs.Done.{PlanDone};
 
-use deals::{Lengths, PlanList, PlanRefusal, Planned};
-use layout::room::{Counts, LoadRefusal, Loaded, load_room};
+use deals::{Lengths, PlanList, PlanRefusal};
+use layout::room::{Counts, LoadRefusal, load_room};
 use plan_rooms::plan_loaded;
 
-// What the checks come to: the room's counts, or why a plan is turned back.
-#[derive(Clone, Copy)]
-pub enum Admission {
-    Good(Counts),
-    Refused(PlanRefusal),
-}
-
-// A refusal of the loading, as one of Plan's.
-fn refusal_of(refusal: LoadRefusal) -> PlanRefusal
-    ensures same { result ≡ refusal_of refusal }
+// A list of so many entries, where so many are needed.
+fn enough(list: PlanList, entries: usize, needed: usize) -> Result<(), PlanRefusal>
+    ensures long { IfOk result (λ none. needed ≤ entries) }
+    ensures short { IfErr result (λ refusal. (entries < needed) × (refusal ≡ PlanRefusal.ListTooShort list needed)) }
 {
-    match refusal {
-        LoadRefusal::Table(refusal) => PlanRefusal::Table(refusal),
-        LoadRefusal::DemandCount(servers) => PlanRefusal::DemandCount(servers),
-        LoadRefusal::DemandTooLarge(place) => PlanRefusal::DemandTooLarge(place),
+    if entries < needed {
+        return Err(PlanRefusal::ListTooShort(list, needed));
     }
+    Ok(())
 }
 
 // The checks of Plan behind the loading, in their order: no list is too short. A part of the operation, for its C call too.
-pub fn admit(loaded: Loaded, lengths: Lengths) -> Admission
+pub fn admit(loaded: Result<Counts, LoadRefusal>, lengths: Lengths) -> Result<Counts, PlanRefusal>
     ensures admitted { result ≡ admission (admitting loaded lengths) }
+    ensures few { IfOk loaded CountsFew → IfOk result CountsFew }
 {
-    let counts = match loaded {
-        Loaded::Good(counts) => counts,
-        Loaded::Refused(refusal) => return Admission::Refused(refusal_of(refusal)),
-    };
-    let cords = counts.cords;
-    let servers = counts.servers;
-    if lengths.grants < cords {
-        return Admission::Refused(PlanRefusal::ListTooShort(PlanList::Grants, cords));
-    }
-    if lengths.caps < servers {
-        return Admission::Refused(PlanRefusal::ListTooShort(PlanList::Caps, servers));
-    }
-    if lengths.headroom < cords {
-        return Admission::Refused(PlanRefusal::ListTooShort(PlanList::Headroom, cords));
-    }
-    if lengths.held < cords {
-        return Admission::Refused(PlanRefusal::ListTooShort(PlanList::Held, cords));
-    }
-    Admission::Good(counts)
+    let counts = loaded?;
+    enough(PlanList::Grants, lengths.grants, counts.cords)?;
+    enough(PlanList::Caps, lengths.caps, counts.servers)?;
+    enough(PlanList::Headroom, lengths.headroom, counts.cords)?;
+    enough(PlanList::Held, lengths.held, counts.cords)?;
+    Ok(counts)
 }
 
 // Plan: of a table and its servers' demands, for each cord a grant, its headroom and the number of the node that holds it (0 for none),
@@ -63,7 +45,7 @@ pub fn plan(
     caps: &mut [u32],
     headroom: &mut [u32],
     held: &mut [u32],
-) -> Planned
+) -> Result<u64, PlanRefusal>
     ensures done { PlanDone table.now demands.now
         (lists grants.old caps.old headroom.old held.old) result
         (lists grants.new caps.new headroom.new held.new) }
@@ -92,19 +74,12 @@ pub fn plan(
         headroom: headroom.len(),
         held: held.len(),
     };
-    let admission = admit(loaded, lengths);
-    match admission {
-        Admission::Good(counts) => {
-            let k = counts.cords;
-            let v = counts.servers;
-            figures::copy(&ceilings[..k], headroom);
-            figures::copy(&needs[..v], caps);
-            let freed = plan_loaded(
-                counts, &parents, &cords, &mut lows, &mut wants, &mut left, grants, caps, headroom,
-                held,
-            );
-            Planned::Accepted(freed)
-        }
-        Admission::Refused(refusal) => Planned::Refused(refusal),
-    }
+    let counts = admit(loaded, lengths)?;
+    let k = counts.cords;
+    let v = counts.servers;
+    figures::copy(&ceilings[..k], headroom);
+    figures::copy(&needs[..v], caps);
+    Ok(plan_loaded(
+        counts, &parents, &cords, &mut lows, &mut wants, &mut left, grants, caps, headroom, held,
+    ))
 }

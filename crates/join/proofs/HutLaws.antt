@@ -3,7 +3,7 @@ use mathlib.Core.Path.{◌≡◌, refl, sym, ap, ap₂, ◌∙◌, subst}
 use mathlib.Core.Bool.{Bool, not}
 use mathlib.Core.List.{List, ◌∷◌, ◌++◌, append_assoc}
 use Prim.Native.Nat.{ℕ, zero, suc, ◌+◌, ◌-◌, ◌*◌, ◌/◌, ◌≤◌, ◌<◌, min}
-use native.Mathlib.Nat.{suc-ne-zero}
+use Rattle.std.proofs.Common.{Result, Ok, Err}
 use native.Mathlib.Omega.{arith}
 use lib.ListN.{length, take, drop, length-append}
 use lib.Seq.{sets, length-take-le, length-sets}
@@ -23,8 +23,6 @@ use Rattle.rooms.specs.Rows.{NodesFit, ServersFit}
 use Rattle.rooms.specs.Walk.{servers_index}
 use Rattle.rooms.specs.Told.{told}
 use Rattle.rooms.specs.declared.SheetRefusal.{SheetRefusal}
-use Rattle.rooms.specs.declared.Checked.{Checked}
-use Rattle.rooms.specs.declared.Checked.TheVariants as checks
 use Rattle.rooms.proofs.Accepted as rooms
 use Rattle.rooms.proofs.Counts.{nodes-told, cords-told}
 use Rattle.rooms.proofs.Reach.{prefix_decides, length_is, length_small, words_small}
@@ -33,8 +31,6 @@ use Rattle.join.specs.Outcome.{JoinOutcome, JoinReason, reasons, join_rooms, joi
 use Rattle.join.specs.Pieces.{renumbered, renumbered_every, renumbered_cords}
 use Rattle.join.specs.Huts.{hut_of, examined_step, examined, HutOf, Small}
 use Rattle.join.specs.declared.Hut.{Hut}
-use Rattle.join.specs.declared.Examined.{Examined}
-use Rattle.join.specs.declared.Examined.TheVariants as examineds
 use Rattle.join.specs.declared.JoinRefusal.TheVariants.{First, Second, VersionsDiffer, TooManyNodes, TooManyServers, TooManyCords, TableTooShort}
 use Rattle.join.proofs.JoinedRoom.{nodes-joined, servers-joined}
 use Rattle.join.proofs.TableWords.{row_append, length_are, nodes-moved, servers-moved}
@@ -49,31 +45,31 @@ pub record GoodTable (w : List ℕ) (cords : ℕ) : Type 0 where
   pub is : checked w 0 ≡ good room end
   pub count : cords ≡ room_cords room
 
-pub good_told : (w : List ℕ) {k : Checked} {cords next : ℕ} → k ≡ told room_cords (checked w 0) → k ≡ checks.Good cords next → GoodTable w cords
+pub good_told : (w : List ℕ) {k : Result (ℕ × ℕ) SheetRefusal} {known : ℕ × ℕ} → k ≡ told room_cords (checked w 0) → k ≡ Ok known → GoodTable w known.0
 unfolding told
-good_told w {k} {cords} {next} d e = go (checked w 0) refl d
+good_told w {k} {known} d e = go (checked w 0) refl d
   where
-    go : (s : Step Room) → checked w 0 ≡ s → k ≡ told room_cords s → GoodTable w cords
-    go (good r end) q d = let c : cords ≡ room_cords r = cc in record { room = r; end = end; is = q; count = c }
-    go (bad refusal) q d = absurd (suc-ne-zero 0 (cc))
+    go : (s : Step Room) → checked w 0 ≡ s → k ≡ told room_cords s → GoodTable w known.0
+    go (good r end) q d = let c : known.0 ≡ room_cords r = (let p : known ≡ (room_cords r, end) = cc in ap (λ (x : ℕ × ℕ). x.0) p) in record { room = r; end = end; is = q; count = c }
+    go (bad refusal) q d = absurd (cc)
 
-pub refused_told : (w : List ℕ) {k : Checked} {q : SheetRefusal} → k ≡ told room_cords (checked w 0) → k ≡ checks.Refused q → examineds.Refused q ≡ examined w
+pub refused_told : (w : List ℕ) {k : Result (ℕ × ℕ) SheetRefusal} {q : SheetRefusal} → k ≡ told room_cords (checked w 0) → k ≡ Err q → Err q ≡ examined w
 unfolding told examined_step
 refused_told w {k} {q} d e = go (checked w 0) d
   where
-    go : (s : Step Room) → k ≡ told room_cords s → examineds.Refused q ≡ examined_step w s
-    go (good r end) d = absurd (suc-ne-zero 0 (cc))
-    go (bad p) d = let a : q ≡ p = cc in ap examineds.Refused a
+    go : (s : Step Room) → k ≡ told room_cords s → Err q ≡ examined_step w s
+    go (good r end) d = absurd (cc)
+    go (bad p) d = cc
 
 module _ (w : List ℕ) {cords : ℕ} (g : GoodTable w cords) where
   pub good_long : 3 ≤ length w
   good_long = omega (arith, length_is w g.room g.end g.is)
 
   pub good_examined : {nodes servers cords' middle : ℕ} → NodesFit w nodes → ServersFit w servers → cords' ≡ cords → middle ≡ servers_index w
-      → examineds.Good (record { version = at w 0; nodes = nodes; servers = servers; cords = cords'; middle = middle; words = length w }) ≡ examined w
+      → Ok (record { version = at w 0; nodes = nodes; servers = servers; cords = cords'; middle = middle; words = length w }) ≡ examined w
   unfolding examined_step
   good_examined n s c m =
-      (λ i. examineds.Good (record {
+      (λ i. Ok (record {
         version = at w 0;
         nodes = n g.room g.end g.is i;
         servers = s g.room g.end g.is i;
@@ -83,12 +79,12 @@ module _ (w : List ℕ) {cords : ℕ} (g : GoodTable w cords) where
       }))
       ∙ sym (ap (examined_step w) g.is)
 
-pub bad_examined : (w : List ℕ) {k : Examined} {q : SheetRefusal} → k ≡ examined w → k ≡ examineds.Refused q → checked w 0 ≡ bad q
+pub bad_examined : (w : List ℕ) {k : Result Hut SheetRefusal} {q : SheetRefusal} → k ≡ examined w → k ≡ Err q → checked w 0 ≡ bad q
 unfolding examined_step
 bad_examined w {k} {q} d e = go (checked w 0) refl d
   where
     go : (t : Step Room) → checked w 0 ≡ t → k ≡ examined_step w t → checked w 0 ≡ bad q
-    go (good r end) z d = absurd (suc-ne-zero 0 (cc))
+    go (good r end) z d = absurd (cc)
     go (bad p) z d = let a : p ≡ q = cc in z ∙ ap bad a
 
 -- The words that are loaded decide.
@@ -96,17 +92,17 @@ module _ (bytes list : List ℕ) {count : ℕ} {list' : List ℕ} (n : count ≡
   pub loaded-length : count ≡ length (take count list')
   loaded-length = sym (length-take-le count list' (omega (arith, ap length is ∙ length-sets list 0 (words_of bytes))))
 
-  pub loaded-checked : {k : Checked} → suc most_words ≤ length list → k ≡ told room_cords (checked (take count list') 0) → k ≡ told room_cords (checked (words_of bytes) 0)
+  pub loaded-checked : {k : Result (ℕ × ℕ) SheetRefusal} → suc most_words ≤ length list → k ≡ told room_cords (checked (take count list') 0) → k ≡ told room_cords (checked (words_of bytes) 0)
   loaded-checked h e =
       e ∙ ap (λ (w : List ℕ). told room_cords (checked w 0)) (take-loaded (length list) count bytes list list' refl n is)
       ∙ ap (told room_cords) (prefix_decides (words_of bytes) (length list) h)
 
 -- ---- What is kept of a table, read from its words
 
-pub checked_good : (w : List ℕ) {k : Checked} {cords next : ℕ} → k ≡ told room_cords (checked w 0) → k ≡ checks.Good cords next → Good (checked w 0)
+pub checked_good : (w : List ℕ) {k : Result (ℕ × ℕ) SheetRefusal} {known : ℕ × ℕ} → k ≡ told room_cords (checked w 0) → k ≡ Ok known → Good (checked w 0)
 checked_good w d e = let g = good_told w d e in record { value = g.room; next = g.end; is = g.is }
 
-pub checked_bad : (w : List ℕ) {k : Checked} {q : SheetRefusal} → k ≡ told room_cords (checked w 0) → k ≡ checks.Refused q → checked w 0 ≡ bad q
+pub checked_bad : (w : List ℕ) {k : Result (ℕ × ℕ) SheetRefusal} {q : SheetRefusal} → k ≡ told room_cords (checked w 0) → k ≡ Err q → checked w 0 ≡ bad q
 checked_bad w d e = bad_examined w refl (sym (refused_told w d e))
 
 module _ (w : List ℕ) (g : Good (checked w 0)) where
@@ -156,13 +152,13 @@ pub counts_in : (bytes : List ℕ) → Good (checked (words_of bytes) 0) → 3 �
 counts_in bytes g = omega (arith, length-words_of bytes, counts_there (words_of bytes) g)
 
 -- What a good answer keeps.
-pub hut-of : (w : List ℕ) {k : Examined} {hut : Hut} → k ≡ examined w → k ≡ examineds.Good hut → HutOf w hut
+pub hut-of : (w : List ℕ) {k : Result Hut SheetRefusal} {hut : Hut} → k ≡ examined w → k ≡ Ok hut → HutOf w hut
 unfolding examined_step
 hut-of w {k} {hut} d e = go (checked w 0) refl d
   where
     go : (s : Step Room) → checked w 0 ≡ s → k ≡ examined_step w s → HutOf w hut
     go (good r end) q d = let a : hut ≡ hut_of w r = cc in record { room = r; end = end; good_table = q; is = a }
-    go (bad refusal) q d = absurd (suc-ne-zero 0 (cc))
+    go (bad refusal) q d = absurd (cc)
 
 pub hut_small : {w : List ℕ} {hut : Hut} → HutOf w hut → Small hut
 hut_small {w} {hut} h =

@@ -8,6 +8,7 @@ pub mod Demands
 -- What is kept of tables, and pieces of them put one behind the other.
 pub mod PieceLaws
 pub mod TableWords
+pub mod Mapped
 pub mod HutLaws
 pub mod Together
 -- The promises.

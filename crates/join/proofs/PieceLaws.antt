@@ -1,6 +1,5 @@
 -- Pieces of tables in a list, and numbers of nodes moved in them: the laws of the loops, and of one piece behind another.
 use mathlib.Core.Path.{◌≡◌, refl, sym, ap, ap₂, ◌∙◌, subst}
-use mathlib.Core.Bool.{Bool, true, false, cond}
 use mathlib.Core.List.{List, [], ◌∷◌, ◌++◌, append_assoc, append-nil}
 use Prim.Native.Nat.{ℕ, zero, suc, ◌+◌, ◌-◌, ◌*◌, ◌/◌, ◌≤◌, ◌<◌}
 use native.Mathlib.Omega.{arith}
@@ -11,7 +10,6 @@ use Rattle.words.proofs.Bytes.{length-words_of}
 use Rattle.figures.specs.Bounds.{AllBelow}
 use Rattle.figures.proofs.Stores.{sets_all}
 use Rattle.figures.proofs.Bounds.{drop_below}
-use Rattle.rooms.specs.Table.{node_words}
 use Rattle.join.specs.Pieces.{renumbered, renumbered_every, renumbered_cords, piece, MayPut, PiecePut}
 
 -- ---- A list of which the front is done and the rest is to be done
@@ -171,20 +169,6 @@ module _ (up down : ℕ) where
       subst (λ (k : ℕ). Turning (renumbered_cords up down (left - 1)) wanted list (set now i x) k) (let q : suc i + 1 ≡ i + 2 = omega arith in q)
       (subst (λ (v : ℕ). Turning (renumbered_cords up down (left - 1)) wanted list (set now i v) (suc i + 1)) (sym is)
       (cord_turn (left - 1) (let q : left ≡ suc (left - 1) = omega arith in q) h t))
-
--- ---- One number, and one width
-
-pub renumbered-low : (up down v : ℕ) → v + up < down → 0 ≡ renumbered up down v
-renumbered-low up down zero h = refl
-renumbered-low up down (suc m) h = omega arith
-
-pub renumbered_is : (up down v : ℕ) → (v ≡ 0 → ⊥) → v + up - down ≡ renumbered up down v
-renumbered_is up down zero n = absurd (n refl)
-renumbered_is up down (suc m) n = refl
-
-pub width_is : (percents : Bool) (other : Bool) → percents ≡ other → (cond percents 3 2 ≡ node_words other) × (2 ≤ cond percents 3 2) × (cond percents 3 2 ≤ 3)
-width_is true other e = (ap node_words e, omega arith, omega arith)
-width_is false other e = (ap node_words e, omega arith, omega arith)
 
 -- ---- Words of a part of the bytes
 

@@ -3,7 +3,8 @@ use mathlib.Core.Path.{◌≡◌, refl, sym, ap, ap₂, ◌∙◌, subst}
 use mathlib.Core.Bool.{Bool, true, false}
 use mathlib.Core.List.{List, [], ◌∷◌, ◌++◌}
 use Prim.Native.Nat.{ℕ, suc, ◌+◌, ◌-◌, ◌*◌, ◌/◌, ◌≤◌, ◌<◌}
-use native.Mathlib.Nat.{suc-ne-zero}
+use Rattle.std.proofs.Common.{Result, Ok, Err}
+use Rattle.std.specs.Result.{result_unwrap_or}
 use native.Mathlib.Omega.{arith}
 use lib.ListN.{length, take, set, length-take, length-set}
 use lib.Seq.{sets, take_all}
@@ -13,7 +14,7 @@ use Rattle.outcomes.proofs.Outcomes.{unless-back, unless_is, unless_none, unless
 use Rattle.figures.specs.Figures.{at}
 use Rattle.words.specs.Bytes.{words_of, bytes_of}
 use Rattle.words.proofs.Bytes.{length-words_of}
-use Rattle.calls.specs.Call.{answered, OutcomeCall}
+use Rattle.calls.specs.Call.{answered, told_numbers, OutcomeCall}
 use Rattle.calls.proofs.Calls.{call_done}
 use Rattle.rooms.specs.Part.{Step, good, bad}
 use Rattle.rooms.specs.Table.{Room, most_nodes, most_servers, most_cords, most_words, form_of, node_words, room_cords}
@@ -22,14 +23,12 @@ use Rattle.rooms.specs.Words.{table_of, row_words, words_of_node}
 use Rattle.rooms.proofs.Accepted as rooms
 use Rattle.rooms.proofs.Reach.{length_is}
 use Rattle.join.specs.Joined.{joined}
-use Rattle.join.specs.Outcome.{JoinOutcome, reasons, joining, answer_of, join_number, join_figure}
+use Rattle.join.specs.Outcome.{JoinOutcome, reasons, joining, answer_of, join_refusal_number, join_refusal_place}
 use Rattle.join.specs.Call.{join_numbers}
 use Rattle.join.specs.Pieces.{renumbered_every, renumbered_cords, piece, MayPut, PiecePut}
-use Rattle.join.specs.Huts.{hut_of, HutOf, MayPutTogether, JoinedInFront, written, InFront, written_count}
+use Rattle.join.specs.Huts.{hut_of, HutOf, MayPutTogether, JoinedInFront, written, InFront}
 use Rattle.join.specs.declared.Hut.{Hut}
 use Rattle.join.specs.declared.JoinRefusal.{JoinRefusal}
-use Rattle.join.specs.declared.JoinAnswer.{JoinAnswer}
-use Rattle.join.specs.declared.JoinAnswer.TheVariants.{Accepted, Refused}
 use Rattle.join.proofs.TableWords.{middle_is, length_are, nodes-piece, servers-piece}
 use Rattle.join.proofs.PieceLaws.{every_length, piece-length, put_word, put_both}
 use Rattle.join.proofs.HutLaws.{first_bad, second_bad, both_good, joined_words}
@@ -38,28 +37,20 @@ use Rattle.join.proofs.Demands.{same_count}
 -- ---- What is told, and what is written
 
 module _ (outcome : JoinOutcome) (words : List ℕ) where
-  pub done_refused : {q : JoinRefusal} → outcome ≡ refused q → (Refused q ≡ answer_of outcome) × InFront outcome words
+  pub done_refused : {q : JoinRefusal} → outcome ≡ refused q → (Err q ≡ answer_of outcome) × InFront outcome words
   done_refused e = rw e (refl, record { is = refl })
-
-  -- An answer that is a refusal writes nothing.
-  pub done_told : {told : JoinAnswer} {q : JoinRefusal} → told ≡ answer_of outcome → told ≡ Refused q → (told ≡ answer_of outcome) × InFront outcome words
-  done_told {told} {q} is e = (is, go outcome (sym is ∙ e))
-    where
-      go : (o : JoinOutcome) → answer_of o ≡ Refused q → InFront o words
-      go (accepted table) d = absurd (suc-ne-zero 0 (cc))
-      go (refused p) d = record { is = refl }
 
 -- An answer that is none comes of a table.
 pub record Tabled (outcome : JoinOutcome) : Type 0 where
   pub table : List ℕ
   pub is : outcome ≡ accepted table
 
-pub tabled : (outcome : JoinOutcome) {told : JoinAnswer} {n : ℕ} → told ≡ answer_of outcome → told ≡ Accepted n → Tabled outcome
+pub tabled : (outcome : JoinOutcome) {told : Result ℕ JoinRefusal} {n : ℕ} → told ≡ answer_of outcome → told ≡ Ok n → Tabled outcome
 tabled outcome {told} {n} is e = go outcome (sym is ∙ e)
   where
-    go : (o : JoinOutcome) → answer_of o ≡ Accepted n → Tabled o
+    go : (o : JoinOutcome) → answer_of o ≡ Ok n → Tabled o
     go (accepted table) d = record { table = table; is = refl }
-    go (refused p) d = absurd (suc-ne-zero 0 (cc))
+    go (refused p) d = absurd (cc)
 
 module _ (f s : List ℕ) (space : ℕ) {one two : Hut} (a : HutOf f one) (b : HutOf s two) (t : Tabled (joining f s space)) where
   abbrev joint : List ℕ
@@ -129,11 +120,11 @@ written_fits f s space = go (checked f 0) refl
     go (good r i) a = second r i a (checked s 0) refl
     go (bad p) a = subst Fits (sym (first_bad f s space a)) (omega arith)
 
-module _ (outcome : JoinOutcome) {told : JoinAnswer} {count : ℕ} (is : told ≡ answer_of outcome) (n : count ≡ written_count told) where
+module _ (outcome : JoinOutcome) {told : Result ℕ JoinRefusal} {count : ℕ} (is : told ≡ answer_of outcome) (n : count ≡ result_unwrap_or told 0) where
   count_is : count ≡ length (written outcome)
-  count_is = n ∙ ap written_count is ∙ go outcome
+  count_is = n ∙ ap (λ (t : Result ℕ JoinRefusal). result_unwrap_or t 0) is ∙ go outcome
     where
-      go : (o : JoinOutcome) → written_count (answer_of o) ≡ length (written o)
+      go : (o : JoinOutcome) → result_unwrap_or (answer_of o) 0 ≡ length (written o)
       go (accepted table) = refl
       go (refused q) = refl
 
@@ -146,14 +137,20 @@ module _ (outcome : JoinOutcome) {told : JoinAnswer} {count : ℕ} (is : told �
 
     -- Stored in bytes, with the answer.
     pub stored : (table answer : List ℕ) {table' answer' : List ℕ} → length (written outcome) ≤ length table / 4 → 16 ≤ length answer
-        → table' ≡ sets table 0 (bytes_of (take (length table / 4) (take count words))) → answer' ≡ answered 2 (join_number told ∷ join_figure told ∷ []) answer
+        → table' ≡ sets table 0 (bytes_of (take (length table / 4) (take count words))) → answer' ≡ answered 2 (told_numbers (λ n. n ∷ []) join_refusal_number join_refusal_place told) answer
         → OutcomeCall 2 join_numbers bytes_of outcome table answer 1 table' answer'
     unfolding bytes_of
     stored table answer fits long s a =
         let all : take (length table / 4) (take count words) ≡ written outcome = ap (take (length table / 4)) taken ∙ take_all (length table / 4) (written outcome) fits in
         call_done _ answer _ (omega arith)
-        (s ∙ ap (λ (l : List ℕ). sets table 0 (bytes_of l)) all ∙ go outcome) (rw is at a)
+        (s ∙ ap (λ (l : List ℕ). sets table 0 (bytes_of l)) all ∙ go outcome)
+        (a ∙ ap (λ (t : Result ℕ JoinRefusal). answered 2 (told_numbers (λ n. n ∷ []) join_refusal_number join_refusal_place t) answer) is
+        ∙ ap (λ (l : List ℕ). answered 2 l answer) (numbers outcome))
       where
+        numbers : (o : JoinOutcome) → told_numbers (λ n. n ∷ []) join_refusal_number join_refusal_place (answer_of o) ≡ join_numbers o
+        numbers (accepted words) = refl
+        numbers (refused q) = refl
+
         go : (o : JoinOutcome) → sets table 0 (bytes_of (written o)) ≡ after bytes_of o table
         go (accepted words) = refl
         go (refused q) = refl

@@ -1,6 +1,6 @@
 -- What is kept of a good table, and how the joined one stands in a list: what contracts of private functions cite, of Join and of Part.
 -- No public contract does.
-use Rattle.std.specs.Prelude.{◌≡◌, List, [], ℕ, ◌+◌, ◌-◌, ◌^◌, ◌≤◌, ◌<◌, length, take}
+use Rattle.std.specs.Prelude.{◌≡◌, List, [], ℕ, ◌+◌, ◌-◌, ◌^◌, ◌≤◌, ◌<◌, length, take, Result, Ok, Err}
 use Rattle.outcomes.specs.Outcome.{accepted, refused}
 use Rattle.figures.specs.Figures.{at}
 use Rattle.rooms.specs.Part.{Step, good, bad}
@@ -11,10 +11,7 @@ use Rattle.rooms.specs.Walk.{servers_index}
 use Rattle.join.specs.Joined.{joined}
 use Rattle.join.specs.Outcome.{JoinOutcome}
 use Rattle.join.specs.declared.Hut.{Hut}
-use Rattle.join.specs.declared.Examined.{Examined}
-use Rattle.join.specs.declared.Examined.TheVariants.{Good, Refused}
-use Rattle.join.specs.declared.JoinAnswer.{JoinAnswer}
-use Rattle.join.specs.declared.JoinAnswer.TheVariants as answers
+use Rattle.rooms.specs.declared.SheetRefusal.{SheetRefusal}
 
 -- What is kept of a table whose room is r.
 abbrev pub hut_of : List ℕ → Room → Hut
@@ -28,11 +25,11 @@ hut_of w r = record {
 }
 
 -- What the check of a table gives.
-unfoldable pub examined_step : List ℕ → Step Room → Examined
-examined_step w (good r end) = Good (hut_of w r)
-examined_step w (bad refusal) = Refused refusal
+unfoldable pub examined_step : List ℕ → Step Room → Result Hut SheetRefusal
+examined_step w (good r end) = Ok (hut_of w r)
+examined_step w (bad refusal) = Err refusal
 
-abbrev pub examined : List ℕ → Examined
+abbrev pub examined : List ℕ → Result Hut SheetRefusal
 examined w = examined_step w (checked w 0)
 
 -- The table is good, and this is kept of it.
@@ -69,8 +66,3 @@ written (refused refusal) = []
 -- What is written stands at the front of a list.
 pub record InFront (outcome : JoinOutcome) (list : List ℕ) : Type 0 where
   pub is : take (length (written outcome)) list ≡ written outcome
-
--- How many words an answer says are written.
-abbrev pub written_count : JoinAnswer → ℕ
-written_count (answers.Accepted count) = count
-written_count (answers.Refused refusal) = 0

@@ -1,5 +1,5 @@
 -- Join: what it comes to, as an answer and as a table.
-use Rattle.std.specs.Prelude.{not, List, [], ◌∷◌, ℕ, ◌+◌, length, eqb, ltb}
+use Rattle.std.specs.Prelude.{not, List, [], ◌∷◌, ℕ, ◌+◌, length, eqb, ltb, Result, Ok, Err}
 use Rattle.outcomes.specs.Outcome.{Outcome, accepted, refused, Reason, unless, too_short}
 use Rattle.figures.specs.Figures.{at}
 use Rattle.outcomes.specs.Part.{when_good}
@@ -11,8 +11,6 @@ use Rattle.join.specs.Joined.{joined}
 use Rattle.join.specs.declared.JoinRefusal.{JoinRefusal}
 use Rattle.join.specs.declared.JoinRefusal.TheVariants.{First, Second, VersionsDiffer, TooManyNodes, TooManyServers, TooManyCords}
 use Rattle.join.specs.declared.JoinRefusal.TheVariants.{TableTooShort}
-use Rattle.join.specs.declared.JoinAnswer.{JoinAnswer}
-use Rattle.join.specs.declared.JoinAnswer.TheVariants.{Accepted, Refused}
 
 -- What Join comes to: accepted with the words of the joined table, or refused.
 abbrev pub JoinOutcome : Type 0
@@ -50,10 +48,10 @@ unfolding join_rooms checked
 joining first second entries =
     when_good First (checked first 0) (λ r. when_good Second (checked second 0) (λ q. join_rooms (at first 0) (at second 0) r q entries))
 
--- The answer to an outcome.
-abbrev pub answer_of : JoinOutcome → JoinAnswer
-answer_of (accepted table) = Accepted (length table)
-answer_of (refused refusal) = Refused refusal
+-- The answer to an outcome: the count of words, or why the tables are turned back.
+abbrev pub answer_of : JoinOutcome → Result ℕ JoinRefusal
+answer_of (accepted table) = Ok (length table)
+answer_of (refused refusal) = Err refusal
 
 -- ---- Numbers and places
 
@@ -78,10 +76,10 @@ join_refusal_place TooManyCords = 2
 join_refusal_place (TableTooShort needed) = needed
 
 -- An answer's number, 0 if accepted, and its figure: the count of words, or the refusal's place.
-abbrev pub join_number : JoinAnswer → ℕ
-join_number (Accepted count) = 0
-join_number (Refused refusal) = join_refusal_number refusal
+abbrev pub join_number : Result ℕ JoinRefusal → ℕ
+join_number (Ok count) = 0
+join_number (Err refusal) = join_refusal_number refusal
 
-abbrev pub join_figure : JoinAnswer → ℕ
-join_figure (Accepted count) = count
-join_figure (Refused refusal) = join_refusal_place refusal
+abbrev pub join_figure : Result ℕ JoinRefusal → ℕ
+join_figure (Ok count) = count
+join_figure (Err refusal) = join_refusal_place refusal

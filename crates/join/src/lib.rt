@@ -4,30 +4,29 @@
 // together there last: so the call needs hardly more stack than Read, and not that of three tables.
 #![tactic(auto)]
 
-ghost use Rattle.std.specs.Prelude.{◌≡◌, ℕ, suc, ◌/◌, ◌≤◌, ◌<◌, length, List, [], ◌∷◌};
+ghost use Rattle.std.specs.Prelude.{◌≡◌, ℕ, suc, ◌/◌, ◌≤◌, ◌<◌, length, List};
 ghost use Rattle.words.specs.Bytes.{words_of};
-ghost use Rattle.calls.specs.Call.{answered};
 ghost use Rattle.figures.specs.Figures.{at};
 ghost use Rattle.rooms.specs.Part.{Good};
 ghost use Rattle.rooms.specs.Table.{most_words, room_cords};
 ghost use Rattle.rooms.specs.Limits.{checked};
 ghost use Rattle.rooms.specs.Told.{told};
 ghost use Rattle.rooms.specs.Walk.{servers_index};
-ghost use Rattle.join.specs.Outcome.{join_refusal_number, join_refusal_place, join_number, join_figure, joining, answer_of};
+ghost use Rattle.join.specs.Outcome.{join_refusal_number, join_refusal_place, joining, answer_of};
 ghost use Rattle.join.specs.Call.{JoinCall};
-ghost use Rattle.join.specs.Huts.{examined, HutOf, Small, MayPutTogether, JoinedInFront, InFront, written_count};
+ghost use Rattle.join.specs.Huts.{examined, HutOf, Small, MayPutTogether, JoinedInFront, InFront};
 
-use crate::pieces::{node_width, put_nodes, put_servers, put_words};
+use crate::pieces::{Shift, node_width, put_nodes, put_servers, put_words};
 use calls::ANSWER_BYTES;
-use figures::{index_word, word_index};
+use outcomes::Refusal;
 use rooms::form::{has_percents, node_index};
 use rooms::lists::{node_count, server_count, servers_index};
-use rooms::{Checked, DECIDING_WORDS, SheetRefusal};
+use rooms::{DECIDING_WORDS, SheetRefusal};
 
 pub mod pieces;
 
 // Why two tables are turned back: the refusal of either, or of both together. A table that is too short is told with the length needed.
-#[derive(Clone, Copy)]
+#[derive(Clone, Copy, PartialEq, Eq)]
 pub enum JoinRefusal {
     First(SheetRefusal),
     Second(SheetRefusal),
@@ -36,13 +35,6 @@ pub enum JoinRefusal {
     TooManyServers,
     TooManyCords,
     TableTooShort(usize),
-}
-
-// The answer of Join: accepted with the count of words, or refused.
-#[derive(Clone, Copy)]
-pub enum JoinAnswer {
-    Accepted(usize),
-    Refused(JoinRefusal),
 }
 
 // What is kept of a good table: its version, its counts of nodes, servers and cords, the index of its count of servers, and its length.
@@ -56,63 +48,30 @@ pub struct Hut {
     pub words: usize,
 }
 
-// A table that was checked: what is kept of it, or its refusal.
-#[derive(Clone, Copy)]
-pub enum Examined {
-    Good(Hut),
-    Refused(SheetRefusal),
-}
+impl Refusal for JoinRefusal {
+    ghost number_of = { join_refusal_number };
 
-impl JoinRefusal {
+    ghost place_of = { join_refusal_place };
+
     // The refusal's number.
-    pub fn number(self) -> u64
-        ensures is { result ≡ join_refusal_number self }
-    {
+    fn number(self) -> u64 {
         match self {
-            JoinRefusal::First(refusal) => refusal.number(),
-            JoinRefusal::Second(refusal) => refusal.number(),
+            JoinRefusal::First(refusal) | JoinRefusal::Second(refusal) => refusal.number(),
             JoinRefusal::VersionsDiffer => 19,
-            JoinRefusal::TooManyNodes => 20,
-            JoinRefusal::TooManyServers => 20,
-            JoinRefusal::TooManyCords => 20,
+            JoinRefusal::TooManyNodes | JoinRefusal::TooManyServers | JoinRefusal::TooManyCords =>
+                20,
             JoinRefusal::TableTooShort(_) => 12,
         }
     }
 
     // The refusal's place.
-    pub fn place(self) -> usize
-        ensures is { result ≡ join_refusal_place self }
-    {
+    fn place(self) -> u64 {
         match self {
-            JoinRefusal::First(refusal) => refusal.place(),
-            JoinRefusal::Second(refusal) => refusal.place(),
-            JoinRefusal::VersionsDiffer => 0,
-            JoinRefusal::TooManyNodes => 0,
+            JoinRefusal::First(refusal) | JoinRefusal::Second(refusal) => refusal.place(),
+            JoinRefusal::VersionsDiffer | JoinRefusal::TooManyNodes => 0,
             JoinRefusal::TooManyServers => 1,
             JoinRefusal::TooManyCords => 2,
-            JoinRefusal::TableTooShort(needed) => needed,
-        }
-    }
-}
-
-impl JoinAnswer {
-    // The refusal's number, or 0.
-    pub fn number(self) -> u64
-        ensures is { result ≡ join_number self }
-    {
-        match self {
-            JoinAnswer::Accepted(_) => 0,
-            JoinAnswer::Refused(refusal) => refusal.number(),
-        }
-    }
-
-    // The count of words, or the refusal's place.
-    pub fn figure(self) -> usize
-        ensures is { result ≡ join_figure self }
-    {
-        match self {
-            JoinAnswer::Accepted(count) => count,
-            JoinAnswer::Refused(refusal) => refusal.place(),
+            JoinRefusal::TableTooShort(needed) => needed as u64,
         }
     }
 }
@@ -142,38 +101,34 @@ fn join_by(
         return 0;
     }
     let told = join_words(first, second, words, table.len() / 4);
-    let count = written_count(told);
+    let count = told.unwrap_or(0);
     words::store(&words[..count], table);
-    tell(told, answer);
+    calls::tell(told, answer);
     1
 }
 
 // The answer on two tables whose joined one is to go to a list of `space` words. An accepted one stands at the front of `words`.
-fn join_words(first: &[u8], second: &[u8], words: &mut [u32], space: usize) -> JoinAnswer
+fn join_words(
+    first: &[u8],
+    second: &[u8],
+    words: &mut [u32],
+    space: usize,
+) -> Result<usize, JoinRefusal>
     requires deciding { suc most_words ≤ length words.old }
     ensures answers { result ≡ answer_of (joining (words_of first.now) (words_of second.now) space) }
     ensures writes { InFront (joining (words_of first.now) (words_of second.now) space) words.new }
 {
-    let checked = check_bytes(first, words);
-    if let Checked::Refused(refusal) = checked {
-        return JoinAnswer::Refused(JoinRefusal::First(refusal));
-    }
-    let checked_next = check_bytes(second, words);
-    if let Checked::Refused(refusal) = checked_next {
-        return JoinAnswer::Refused(JoinRefusal::Second(refusal));
-    }
+    check_bytes(first, words).map_err(JoinRefusal::First)?;
+    check_bytes(second, words).map_err(JoinRefusal::Second)?;
     let one = hut_in(first);
     let two = hut_in(second);
-    let told = admit(one, two, space);
-    let JoinAnswer::Accepted(_) = told else {
-        return told;
-    };
+    let count = admit(one, two, space)?;
     put_together(first, one, second, two, words);
-    told
+    Ok(count)
 }
 
-// The check of a table in bytes, by way of a list that takes its words.
-fn check_bytes(bytes: &[u8], words: &mut [u32]) -> Checked
+// The check of a table in bytes, by way of a list that takes its words: its count of cords and the index of what is next.
+fn check_bytes(bytes: &[u8], words: &mut [u32]) -> Result<(u32, usize), SheetRefusal>
     requires deciding { suc most_words ≤ length words.old }
     ensures is { result ≡ told room_cords (checked (words_of bytes.now) 0) }
 {
@@ -188,17 +143,17 @@ fn hut_in(bytes: &[u8]) -> Hut
     ensures hut { HutOf (words_of bytes.now) result }
 {
     let version = word_in(bytes, 0);
-    let nodes = word_index(word_in(bytes, 1));
+    let nodes = word_in(bytes, 1) as usize;
     let middle = middle_in(bytes);
-    let servers = word_index(word_in(bytes, middle));
+    let servers = word_in(bytes, middle) as usize;
     let words = bytes.len() / 4;
     Hut {
-        version: version,
-        nodes: nodes,
-        servers: servers,
+        version,
+        nodes,
+        servers,
         cords: (words - (middle + 1 + 4 * servers)) / 2,
-        middle: middle,
-        words: words,
+        middle,
+        words,
     }
 }
 
@@ -208,7 +163,7 @@ fn middle_in(bytes: &[u8]) -> usize
     ensures is { (result ≡ servers_index (words_of bytes.now)) × (result < length bytes.now / 4) }
 {
     let percents = has_percents(word_in(bytes, 0));
-    node_index(percents, word_index(word_in(bytes, 1)))
+    node_index(percents, word_in(bytes, 1) as usize)
 }
 
 // The word at an index of those that stand in bytes.
@@ -222,26 +177,22 @@ fn word_in(bytes: &[u8], i: usize) -> u32
 }
 
 // The check of a table, with what is kept of it, for Part.
-pub fn examine(table: &[u32]) -> Examined
+pub fn examine(table: &[u32]) -> Result<Hut, SheetRefusal>
     ensures is { result ≡ examined table.now }
 {
-    let checked = rooms::check(table);
-    let cords = match checked {
-        Checked::Good(cords, _) => cords,
-        Checked::Refused(refusal) => return Examined::Refused(refusal),
-    };
-    Examined::Good(Hut {
+    let (cords, _) = rooms::check(table)?;
+    Ok(Hut {
         version: table[0],
         nodes: node_count(table),
         servers: server_count(table),
-        cords: word_index(cords),
+        cords: cords as usize,
         middle: servers_index(table),
         words: table.len(),
     })
 }
 
 // The checks of two good tables together, in their order, for a list of `space` words.
-fn admit(one: Hut, two: Hut, space: usize) -> JoinAnswer
+fn admit(one: Hut, two: Hut, space: usize) -> Result<usize, JoinRefusal>
     requires small { Small one × Small two }
     ensures answers { (f s : List ℕ) → HutOf f one → HutOf s two → result ≡ answer_of (joining f s space) }
 {
@@ -252,21 +203,21 @@ fn admit(one: Hut, two: Hut, space: usize) -> JoinAnswer
     let cords = one.cords + two.cords;
     let words = one.words + two.words - 3;
     if version != other {
-        return JoinAnswer::Refused(JoinRefusal::VersionsDiffer);
+        return Err(JoinRefusal::VersionsDiffer);
     }
     if rooms::MOST_NODES < nodes {
-        return JoinAnswer::Refused(JoinRefusal::TooManyNodes);
+        return Err(JoinRefusal::TooManyNodes);
     }
     if rooms::MOST_SERVERS < servers {
-        return JoinAnswer::Refused(JoinRefusal::TooManyServers);
+        return Err(JoinRefusal::TooManyServers);
     }
     if rooms::MOST_CORDS < cords {
-        return JoinAnswer::Refused(JoinRefusal::TooManyCords);
+        return Err(JoinRefusal::TooManyCords);
     }
     if space < words {
-        return JoinAnswer::Refused(JoinRefusal::TableTooShort(words));
+        return Err(JoinRefusal::TableTooShort(words));
     }
-    JoinAnswer::Accepted(words)
+    Ok(words)
 }
 
 // The joined table, put together at the front of `words`: the nodes of both, then the servers of both, with the second's numbers of
@@ -276,31 +227,15 @@ fn put_together(first: &[u8], one: Hut, second: &[u8], two: Hut, words: &mut [u3
     ensures writes { JoinedInFront (words_of first.now) (words_of second.now) words.new }
 {
     let width = node_width(one.version);
-    let by = index_word(one.nodes);
+    let shift = Shift {
+        up: one.nodes as u32,
+        down: 0,
+    };
     words[0] = one.version;
-    words[1] = index_word(one.nodes + two.nodes);
-    let behind = put_words(first, 2, one.middle, words, 2);
-    let middle = put_nodes(second, 2, two.middle, width, by, 0, words, behind);
-    words[middle] = index_word(one.servers + two.servers);
-    let next = put_words(first, one.middle + 1, one.words, words, middle + 1);
-    put_servers(second, two.middle + 1, two.words, by, 0, words, next);
-}
-
-// How many words an answer says are written: none where refused.
-fn written_count(told: JoinAnswer) -> usize
-    ensures is { result ≡ written_count told }
-{
-    match told {
-        JoinAnswer::Accepted(count) => count,
-        JoinAnswer::Refused(_) => 0,
-    }
-}
-
-// The answer's number and figure, into its buffer.
-fn tell(told: JoinAnswer, answer: &mut [u8])
-    ensures told { answer.new ≡ answered 2 (join_number told ∷ join_figure told ∷ []) answer.old }
-{
-    let number = told.number();
-    let figure = told.figure() as u64;
-    calls::store_answer(number, figure, answer);
+    words[1] = (one.nodes + two.nodes) as u32;
+    let behind = put_words(first, 2..one.middle, words, 2);
+    let middle = put_nodes(second, 2..two.middle, width, shift, words, behind);
+    words[middle] = (one.servers + two.servers) as u32;
+    let next = put_words(first, one.middle + 1..one.words, words, middle + 1);
+    put_servers(second, two.middle + 1..two.words, shift, words, next);
 }

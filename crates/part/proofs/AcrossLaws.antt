@@ -11,6 +11,7 @@ use borrow.Author.Tests.{ltb-true, ltb-false, lt-leb, le-leb}
 use Rattle.join.specs.Pieces.{piece}
 use Rattle.join.proofs.PieceLaws.{drop-take}
 use Rattle.part.specs.Crossing.{across}
+use Rattle.std.proofs.Common.{Option, Some, None}
 use Rattle.part.specs.Sides.{every_across, cords_across, server_span, span}
 
 -- ---- Pieces
@@ -30,7 +31,7 @@ module _ (w : List ℕ) where
 -- ---- Parents
 
 module _ (nodes gap : ℕ) where
-  every_none : (index : ℕ) → every_across nodes gap 0 index [] ≡ 0
+  every_none : (index : ℕ) → every_across nodes gap 0 index [] ≡ None
   unfolding every_across
   every_none index = refl
 
@@ -41,28 +42,28 @@ module _ (nodes gap : ℕ) where
   every_skip (suc skip) index (x ∷ l) =
       every_skip skip (index + 1) l ∙ ap (λ (k : ℕ). every_across nodes gap 0 k (drop skip l)) (let q : index + 1 + skip ≡ index + suc skip = omega arith in q)
 
-  every_stop : (index x : ℕ) (l : List ℕ) → across nodes false x ≡ true → every_across nodes gap 0 index (x ∷ l) ≡ index
+  every_stop : (index x : ℕ) (l : List ℕ) → across nodes false x ≡ true → every_across nodes gap 0 index (x ∷ l) ≡ Some index
   unfolding every_across
-  every_stop index x l e = ap (λ (t : Bool). cond t index (every_across nodes gap gap (index + 1) l)) e
+  every_stop index x l e = ap (λ (t : Bool). cond t (Some index) (every_across nodes gap gap (index + 1) l)) e
 
   every_pass : (index x : ℕ) (l : List ℕ) → across nodes false x ≡ false
       → every_across nodes gap 0 index (x ∷ l) ≡ every_across nodes gap 0 (index + 1 + gap) (drop gap l)
   unfolding every_across
-  every_pass index x l e = ap (λ (t : Bool). cond t index (every_across nodes gap gap (index + 1) l)) e ∙ every_skip gap (index + 1) l
+  every_pass index x l e = ap (λ (t : Bool). cond t (Some index) (every_across nodes gap gap (index + 1) l)) e ∙ every_skip gap (index + 1) l
 
 module _ (w : List ℕ) (nodes width i to : ℕ) where
   -- What is left to search, from i on.
-  abbrev pub parents_left : ℕ
+  abbrev pub parents_left : Option ℕ
   parents_left = every_across nodes (width - 1) 0 i (piece i to w)
 
-  pub parent_found : {t : Bool} → i < to → to ≤ length w → t ≡ across nodes false (get_or w i 0) → t ≡ true → i ≡ parents_left
+  pub parent_found : {t : Bool} → i < to → to ≤ length w → t ≡ across nodes false (get_or w i 0) → t ≡ true → Some i ≡ parents_left
   parent_found h l is e =
       sym (every_stop nodes (width - 1) i (get_or w i 0) (piece (i + 1) to w) (sym is ∙ e)) ∙ sym (ap (every_across nodes (width - 1) 0 i) (piece_cons w i to h l))
 
-  pub parents_end : to ≤ i → 0 ≡ parents_left
+  pub parents_end : to ≤ i → None ≡ parents_left
   parents_end h = sym (ap (every_across nodes (width - 1) 0 i) (piece_past w i to h) ∙ every_none nodes (width - 1) i)
 
-pub parents_again : (w : List ℕ) (nodes width i to : ℕ) {t : Bool} {all : ℕ} → 1 ≤ width → i < to → to ≤ length w → t ≡ across nodes false (get_or w i 0) → t ≡ false
+pub parents_again : (w : List ℕ) (nodes width i to : ℕ) {t : Bool} {all : Option ℕ} → 1 ≤ width → i < to → to ≤ length w → t ≡ across nodes false (get_or w i 0) → t ≡ false
     → parents_left w nodes width i to ≡ all → parents_left w nodes width (i + width) to ≡ all
 parents_again w nodes width i to some h l is e all =
     let gap = width - 1 in
@@ -76,7 +77,7 @@ parents_again w nodes width i to some h l is e all =
 -- ---- Cords
 
 module _ (nodes : ℕ) (before : Bool) where
-  cords_none : (left index : ℕ) → cords_across nodes before left index [] ≡ 0
+  cords_none : (left index : ℕ) → cords_across nodes before left index [] ≡ None
   unfolding cords_across
   cords_none zero index = refl
   cords_none (suc left) index = refl
@@ -89,30 +90,30 @@ module _ (nodes : ℕ) (before : Bool) where
   server_pass index (a ∷ []) = refl
   server_pass index [] = refl
 
-  cord_stop : (k index x : ℕ) (l : List ℕ) → across nodes before x ≡ true → cords_across nodes before (suc k) index (x ∷ l) ≡ index
+  cord_stop : (k index x : ℕ) (l : List ℕ) → across nodes before x ≡ true → cords_across nodes before (suc k) index (x ∷ l) ≡ Some index
   unfolding cords_across
-  cord_stop k index x [] e = ap (λ (t : Bool). cond t index 0) e
-  cord_stop k index x (s ∷ l) e = ap (λ (t : Bool). cond t index (cords_across nodes before k (index + 2) l)) e
+  cord_stop k index x [] e = ap (λ (t : Bool). cond t (Some index) None) e
+  cord_stop k index x (s ∷ l) e = ap (λ (t : Bool). cond t (Some index) (cords_across nodes before k (index + 2) l)) e
 
   cord_pass : (k index x : ℕ) (l : List ℕ) → across nodes before x ≡ false → cords_across nodes before (suc k) index (x ∷ l) ≡ cords_across nodes before k (index + 2) (drop 1 l)
   unfolding cords_across
-  cord_pass k index x [] e = ap (λ (t : Bool). cond t index 0) e ∙ sym (cords_none k (index + 2))
-  cord_pass k index x (s ∷ l) e = ap (λ (t : Bool). cond t index (cords_across nodes before k (index + 2) l)) e
+  cord_pass k index x [] e = ap (λ (t : Bool). cond t (Some index) None) e ∙ sym (cords_none k (index + 2))
+  cord_pass k index x (s ∷ l) e = ap (λ (t : Bool). cond t (Some index) (cords_across nodes before k (index + 2) l)) e
 
 module _ (w : List ℕ) (nodes : ℕ) (before : Bool) (left i to : ℕ) where
   -- What is left to search, from i on, where so many cords come first.
-  abbrev pub cords_left : ℕ
+  abbrev pub cords_left : Option ℕ
   cords_left = cords_across nodes before left i (piece i to w)
 
-  pub cords-end : to ≤ i → 0 ≡ cords_left
+  pub cords-end : to ≤ i → None ≡ cords_left
   cords-end h = sym (ap (cords_across nodes before left i) (piece_past w i to h) ∙ cords_none nodes before left i)
 
-  pub cord_found : {t : Bool} → (left ≡ 0 → ⊥) → i < to → to ≤ length w → t ≡ across nodes before (get_or w i 0) → t ≡ true → i ≡ cords_left
+  pub cord_found : {t : Bool} → (left ≡ 0 → ⊥) → i < to → to ≤ length w → t ≡ across nodes before (get_or w i 0) → t ≡ true → Some i ≡ cords_left
   cord_found some h l is e =
       sym (cord_stop nodes before (left - 1) i (get_or w i 0) (piece (i + 1) to w) (sym is ∙ e))
       ∙ sym (ap₂ (λ (k : ℕ) (z : List ℕ). cords_across nodes before k i z) (let q : left ≡ suc (left - 1) = omega arith in q) (piece_cons w i to h l))
 
-module _ (w : List ℕ) (nodes : ℕ) (before : Bool) (left i to : ℕ) {all : ℕ} where
+module _ (w : List ℕ) (nodes : ℕ) (before : Bool) (left i to : ℕ) {all : Option ℕ} where
   pub server_again : {count : ℕ} → left ≡ 0 → to ≤ length w → count ≡ get_or w (i + 3) 0
       → cords_left w nodes before left i to ≡ all → cords_left w nodes before count (i + 4) to ≡ all
   server_again {count} none l c is = go (ltb (i + 3) to) refl ∙ sym (server_pass nodes before i (piece i to w)) ∙ ap (λ (k : ℕ). cords_across nodes before k i (piece i to w)) (sym none) ∙ is

@@ -362,6 +362,6 @@ pub parts_joined : PartsJoined
 parts_joined j first second a b =
     both_fit j.table (n j) (s j) first second (joined_hut j) (ours j).some_nodes (omega (arith, nodes-joined (r j) (q j), (theirs j).some_nodes))
     (omega (arith, servers-joined (r j) (q j)))
-    (sym (none_crossing (at j.table 0) (n j) (s j) (whole j) (nodes_clear j) (before_clear j) (behind_clear j))) refl
+    (none_crossing (at j.table 0) (n j) (s j) (whole j) (nodes_clear j) (before_clear j) (behind_clear j))
     (sym (ap length (first_words j))) a (sym (ap length (second_words j))) b
     ∙ (λ i. accepted (record { first = first_words j i; second = second_words j i }))

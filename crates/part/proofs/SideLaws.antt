@@ -1,5 +1,7 @@
 -- Both sides of a cut in the words of a good table: their tables are those of the parts, and the first word across is found in them.
-use mathlib.Core.Path.{◌≡◌, refl, sym, ap, ap₂, ◌∙◌}
+use mathlib.Core.Path.{◌≡◌, refl, sym, ap, ap₂, ◌∙◌, subst}
+use Rattle.std.proofs.Common.{Option, Some, None}
+use Rattle.std.specs.Option.{option_or}
 use mathlib.Core.Bool.{Bool, true, false, cond}
 use mathlib.Core.List.{List, [], ◌∷◌, ◌++◌}
 use Prim.Native.Nat.{ℕ, zero, suc, ◌+◌, ◌-◌, ◌*◌, ◌≤◌, ◌<◌}
@@ -64,41 +66,61 @@ span-servers (suc k) (s ∷ l) =
 
 -- ---- Links across, by rows and by words
 
-parents_are : (n k : ℕ) (p : Bool) (l : List Node) → every_across n (node_words p - 1) 0 k (row_words (words_of_node p) l) ≡ parent_across n (node_words p) k l
+-- An index that is found is the one that is told; where none is found, 0 is told, which is no index.
+abbrev pub Tells : Option ℕ → ℕ → Type 0
+Tells None index = index ≡ 0
+Tells (Some found) index = (index ≡ found) × (1 ≤ found)
+
+tells_or : (a b : Option ℕ) (n m : ℕ) → Tells a n → Tells b m → Tells (option_or a b) (or_else n m)
+tells_or None b zero m h k = k
+tells_or None b (suc n) m h k = absurd (omega arith)
+tells_or (Some found) b zero m h k = absurd (omega arith)
+tells_or (Some found) b (suc n) m h k = h
+
+tells_cond : (t : Bool) (k : ℕ) (a : Option ℕ) (n : ℕ) → 1 ≤ k → Tells a n → Tells (cond t (Some k) a) (cond t k n)
+tells_cond true k a n h e = (refl, h)
+tells_cond false k a n h e = e
+
+parents_are : (n k : ℕ) (p : Bool) (l : List Node) → 1 ≤ k
+    → Tells (every_across n (node_words p - 1) 0 k (row_words (words_of_node p) l)) (parent_across n (node_words p) k l)
 unfolding row_words every_across parent_across
-parents_are n k true [] = refl
-parents_are n k false [] = refl
-parents_are n k true (x ∷ l) =
-    ap (cond (across n false x.parent) k)
-    (ap (λ (i : ℕ). every_across n 2 0 i (row_words (words_of_node true) l)) (let q : k + 1 + 1 + 1 ≡ k + 3 = omega arith in q) ∙ parents_are n (k + 3) true l)
-parents_are n k false (x ∷ l) =
-    ap (cond (across n false x.parent) k)
-    (ap (λ (i : ℕ). every_across n 1 0 i (row_words (words_of_node false) l)) (let q : k + 1 + 1 ≡ k + 2 = omega arith in q) ∙ parents_are n (k + 2) false l)
+parents_are n k true [] h = refl
+parents_are n k false [] h = refl
+parents_are n k true (x ∷ l) h =
+    tells_cond (across n false x.parent) k _ _ h
+    (subst (λ (i : ℕ). Tells (every_across n 2 0 i (row_words (words_of_node true) l)) (parent_across n 3 (k + 3) l)) (let q : k + 3 ≡ k + 1 + 1 + 1 = omega arith in q)
+    (parents_are n (k + 3) true l (omega arith)))
+parents_are n k false (x ∷ l) h =
+    tells_cond (across n false x.parent) k _ _ h
+    (subst (λ (i : ℕ). Tells (every_across n 1 0 i (row_words (words_of_node false) l)) (parent_across n 2 (k + 2) l)) (let q : k + 2 ≡ k + 1 + 1 = omega arith in q)
+    (parents_are n (k + 2) false l (omega arith)))
 
 -- An index that is not 0 stands.
-or-else : (t : Bool) (k a b c : ℕ) → 1 ≤ k → a ≡ or_else b c → cond t k a ≡ or_else (cond t k b) c
-or-else true zero a b c h e = absurd (omega arith)
-or-else true (suc k) a b c h e = refl
-or-else false k a b c h e = e
+or-else : (t : Bool) (k a b : ℕ) → 1 ≤ k → cond t k (or_else a b) ≡ or_else (cond t k a) b
+or-else true zero a b h = absurd (omega arith)
+or-else true (suc k) a b h = refl
+or-else false k a b h = refl
 
 module _ (n : ℕ) (before : Bool) where
-  cords_are : (l : List Cord) (rest : List ℕ) (k : ℕ) → 1 ≤ k
-      → cords_across n before (length l) k (row_words words_of_cord l ++ rest) ≡ or_else (cord_across n before k l) (cords_across n before 0 (k + 2 * length l) rest)
+  cords_are : (l : List Cord) (rest : List ℕ) (k m : ℕ) → 1 ≤ k → Tells (cords_across n before 0 (k + 2 * length l) rest) m
+      → Tells (cords_across n before (length l) k (row_words words_of_cord l ++ rest)) (or_else (cord_across n before k l) m)
   unfolding row_words cords_across cord_across
-  cords_are [] rest k h = ap (λ (i : ℕ). cords_across n before 0 i rest) (let q : k ≡ k + 2 * 0 = omega arith in q)
-  cords_are (c ∷ l) rest k h =
-      or-else (across n before c.node) k _ _ _ h
-      (cords_are l rest (k + 2) (omega arith)
-      ∙ ap (λ (i : ℕ). or_else (cord_across n before (k + 2) l) (cords_across n before 0 i rest)) (let q : k + 2 + 2 * length l ≡ k + 2 * suc (length l) = omega arith in q))
+  cords_are [] rest k m h e = subst (λ (i : ℕ). Tells (cords_across n before 0 i rest) m) (let q : k + 2 * 0 ≡ k = omega arith in q) e
+  cords_are (c ∷ l) rest k m h e =
+      subst (Tells (cond (across n before c.node) (Some k) (cords_across n before (length l) (k + 2) (row_words words_of_cord l ++ rest))))
+      (or-else (across n before c.node) k (cord_across n before (k + 2) l) m h)
+      (tells_cond (across n before c.node) k _ _ h
+      (cords_are l rest (k + 2) m (omega arith)
+      (subst (λ (i : ℕ). Tells (cords_across n before 0 i rest) m) (let q : k + 2 * suc (length l) ≡ k + 2 + 2 * length l = omega arith in q) e)))
 
-  servers_are : (l : List Server) (k : ℕ) → 1 ≤ k → cords_across n before 0 k (row_words words_of_server l) ≡ server_across n before k l
+  servers_are : (l : List Server) (k : ℕ) → 1 ≤ k → Tells (cords_across n before 0 k (row_words words_of_server l)) (server_across n before k l)
   unfolding row_words cords_across server_across
   servers_are [] k h = refl
   servers_are (s ∷ l) k h =
-      cords_are s.cords (row_words words_of_server l) (k + 4) (omega arith)
-      ∙ ap (or_else (cord_across n before (k + 4) s.cords))
-      (ap (λ (i : ℕ). cords_across n before 0 i (row_words words_of_server l)) (let q : k + 4 + 2 * cord_count s ≡ k + length (words_of_server s) = omega (arith, server-words s) in q)
-      ∙ servers_are l (k + length (words_of_server s)) (omega arith))
+      cords_are s.cords (row_words words_of_server l) (k + 4) (server_across n before (k + length (words_of_server s)) l) (omega arith)
+      (subst (λ (i : ℕ). Tells (cords_across n before 0 i (row_words words_of_server l)) (server_across n before (k + length (words_of_server s)) l))
+      (let q : k + length (words_of_server s) ≡ k + 4 + 2 * cord_count s = omega (arith, server-words s) in q)
+      (servers_are l (k + length (words_of_server s)) (omega arith)))
 
 -- ---- How long a side's table is
 
@@ -273,9 +295,13 @@ module _ (w : List ℕ) (r : Room) (end : ℕ) (e : checked w 0 ≡ good r end) 
 
   -- ---- Links across
 
-  pub across_is : first_across (side_before version n s r) (side_behind (length w) version n s r) w ≡ crossing version n s r
+  pub across_is : Tells (first_across (side_before version n s r) (side_behind (length w) version n s r) w) (crossing version n s r)
   unfolding crossing
   across_is =
-      ap₂ or_else (ap (every_across n (node_words percents - 1) 0 (nodes_behind version n)) piece-nodes_two ∙ parents_are n (nodes_behind version n) percents (drop n r.nodes))
-      (ap₂ or_else (ap (cords_across n true 0 (servers_start version r)) piece-servers_one ∙ servers_are n true (take s r.servers) (servers_start version r) (omega arith))
-      (ap (cords_across n false 0 (servers_behind version s r)) piece-servers_two ∙ servers_are n false (drop s r.servers) (servers_behind version s r) (omega arith)))
+      let parents = subst (λ (l : List ℕ). Tells (every_across n (node_words percents - 1) 0 (nodes_behind version n) l) (parent_across n (node_words percents) (nodes_behind version n) (drop n r.nodes))) (sym piece-nodes_two)
+      (parents_are n (nodes_behind version n) percents (drop n r.nodes) (omega arith)) in
+      let front = subst (λ (l : List ℕ). Tells (cords_across n true 0 (servers_start version r) l) (server_across n true (servers_start version r) (take s r.servers))) (sym piece-servers_one)
+      (servers_are n true (take s r.servers) (servers_start version r) (omega arith)) in
+      let back = subst (λ (l : List ℕ). Tells (cords_across n false 0 (servers_behind version s r) l) (server_across n false (servers_behind version s r) (drop s r.servers))) (sym piece-servers_two)
+      (servers_are n false (drop s r.servers) (servers_behind version s r) (omega arith)) in
+      tells_or _ _ _ _ parents (tells_or _ _ _ _ front back)

@@ -1,8 +1,9 @@
 -- The sides as code makes them, and their tables put together and stored.
+use Rattle.std.proofs.Common.{Result, Ok, Err}
 use mathlib.Core.Path.{◌≡◌, refl, sym, ap, ap₂, ◌∙◌, subst}
 use mathlib.Core.Bool.{Bool, true, false}
 use mathlib.Core.List.{List, [], ◌∷◌, ◌++◌}
-use Prim.Native.Nat.{ℕ, zero, suc, ◌+◌, ◌-◌, ◌*◌, ◌/◌, ◌≤◌, ◌<◌, min}
+use Prim.Native.Nat.{ℕ, suc, ◌+◌, ◌-◌, ◌*◌, ◌/◌, ◌≤◌, ◌<◌, min}
 use native.Mathlib.Omega.{arith}
 use lib.ListN.{length, take, drop, set, length-set}
 use lib.Seq.{sets, take_all}
@@ -10,8 +11,8 @@ use Rattle.outcomes.specs.Outcome.{refused, after}
 use Rattle.figures.specs.Figures.{at}
 use Rattle.words.specs.Bytes.{words_of, bytes_of}
 use Rattle.words.proofs.Bytes.{length-words_of, take-loaded}
-use Rattle.calls.specs.Call.{answered}
-use Rattle.calls.proofs.Calls.{two_of_three, answer-told, call_done}
+use Rattle.calls.specs.Call.{answered, told_numbers}
+use Rattle.calls.proofs.Calls.{call_done}
 use Rattle.rooms.specs.Table.{most_words, form_of, node_words}
 use Rattle.rooms.specs.Words.{row_words, words_of_node}
 use Rattle.rooms.specs.Rows.{OfRoom}
@@ -23,13 +24,12 @@ use Rattle.join.specs.declared.Hut.{Hut}
 use Rattle.join.proofs.TableWords.{middle_is, length_are}
 use Rattle.join.proofs.PieceLaws.{put_word, put_both}
 use Rattle.join.proofs.Together.{ends_nodes}
-use Rattle.part.specs.Crossing.{or_else, servers_start}
+use Rattle.part.specs.Crossing.{servers_start}
 use Rattle.part.specs.Outcome.{PartOutcome, parting, part_refusal_number, part_refusal_place, part_numbers}
 use Rattle.part.specs.Call.{OutcomeCall}
-use Rattle.part.specs.Sides.{every_across, cords_across, span, side_before, side_table, SideFits, side_words, first_across, Halved, Admits}
+use Rattle.part.specs.Sides.{span, side_before, side_table, SideFits, side_words, Halved, Admits, Stored}
 use Rattle.part.specs.declared.Side.{Side}
-use Rattle.part.specs.declared.Admitted.{Admitted}
-use Rattle.part.specs.declared.Admitted.TheVariants as answers
+use Rattle.part.specs.declared.Counts.{Counts}
 use Rattle.part.specs.declared.PartRefusal.{PartRefusal}
 use Rattle.part.proofs.SideLaws.{side_length, middle_at, servers-end-at}
 use Rattle.part.proofs.OutcomeLaws.{admits_cut}
@@ -78,35 +78,6 @@ module _ {w : List ℕ} {hut : Hut} (a : HutOf w hut) where
           end = (ends ∙ ap (λ (k : ℕ). k + span servers (drop k w)) start ∙ servers-end-at w room end e servers) i;
           down = 0;
         }
-
--- ---- The first word across
-
-or_first : (a b : ℕ) {k : ℕ} → k ≡ a → (k ≡ 0 → ⊥) → k ≡ or_else a b
-or_first zero b e some = absurd (some e)
-or_first (suc a) b e some = e
-
-or_next : (a b : ℕ) {k m : ℕ} → k ≡ a → k ≡ 0 → m ≡ b → m ≡ or_else a b
-or_next zero b e none is = is
-or_next (suc a) b e none is = absurd (omega arith)
-
-module _ (w : List ℕ) (one two : Side) {nodes width parent : ℕ} (n : nodes ≡ one.nodes) (width_is : width ≡ node_words (form_of one.version).percents)
-    (p : parent ≡ every_across nodes (width - 1) 0 two.top (piece two.top two.bottom w)) where
-  parent_is : parent ≡ every_across one.nodes (node_words (form_of one.version).percents - 1) 0 two.top (piece two.top two.bottom w)
-  parent_is = p ∙ ap₂ (λ (k m : ℕ). every_across k (m - 1) 0 two.top (piece two.top two.bottom w)) n width_is
-
-  pub parent_first : (parent ≡ 0 → ⊥) → parent ≡ first_across one two w
-  parent_first some = or_first _ _ parent_is some
-
-  module _ (none : parent ≡ 0) {cord : ℕ} (c : cord ≡ cords_across nodes true 0 one.start (piece one.start one.end w)) where
-    cord_is : cord ≡ cords_across one.nodes true 0 one.start (piece one.start one.end w)
-    cord_is = c ∙ ap (λ (k : ℕ). cords_across k true 0 one.start (piece one.start one.end w)) n
-
-    pub cord_first : (cord ≡ 0 → ⊥) → cord ≡ first_across one two w
-    cord_first some = or_next _ _ parent_is none (or_first _ _ cord_is some)
-
-    pub cord_last : cord ≡ 0 → {last : ℕ} → last ≡ cords_across nodes false 0 two.start (piece two.start two.end w) → last ≡ first_across one two w
-    cord_last gone l =
-        or_next _ _ parent_is none (or_next _ _ cord_is gone (l ∙ ap (λ (k : ℕ). cords_across k false 0 two.start (piece two.start two.end w)) n))
 
 -- ---- A side's table, put together
 
@@ -162,36 +133,39 @@ side_stored bytes side fits list output {list'} {output'} {count} put space is =
 
 -- ---- The call
 
-module _ (bytes list : List ℕ) (nodes servers first second : ℕ) {count : ℕ} {list' : List ℕ}
-    (n : count ≡ min (length bytes / 4) (length list)) (is : list' ≡ sets list 0 (words_of bytes)) (deciding : suc most_words ≤ length list)
-    (admitted : Admitted) (admits : Admits (take count list') (parting (take count list') nodes servers first second) first second admitted) where
-  decided : Admits (words_of bytes) (parting (words_of bytes) nodes servers first second) first second admitted
-  decided = admits_cut (length list) (words_of bytes) nodes servers first second deciding admitted
-      (subst (λ (l : List ℕ). Admits l (parting l nodes servers first second) first second admitted) (take-loaded (length list) count bytes list list' refl n is) admits)
+-- What is admitted of the words that are loaded is admitted of the table.
+pub decided : (bytes list : List ℕ) (nodes servers first second : ℕ) {count : ℕ} {list' : List ℕ} → count ≡ min (length bytes / 4) (length list)
+    → list' ≡ sets list 0 (words_of bytes) → suc most_words ≤ length list → (admitted : Result (Side × Side) PartRefusal)
+    → Admits (take count list') (parting (take count list') nodes servers first second) first second admitted
+    → Admits (words_of bytes) (parting (words_of bytes) nodes servers first second) first second admitted
+decided bytes list nodes servers first second {count} {list'} n is deciding admitted admits =
+    admits_cut (length list) (words_of bytes) nodes servers first second deciding admitted
+    (subst (λ (l : List ℕ). Admits l (parting l nodes servers first second) first second admitted) (take-loaded (length list) count bytes list list' refl n is) admits)
 
-  pub admitted_good : {one two : Side} → admitted ≡ answers.Good one two → Halved (words_of bytes) (parting (words_of bytes) nodes servers first second) first second one two
-  admitted_good e = subst (Admits (words_of bytes) (parting (words_of bytes) nodes servers first second) first second) e decided
-
-  pub admitted_refused : {q : PartRefusal} → admitted ≡ answers.Refused q → parting (words_of bytes) nodes servers first second ≡ refused q
-  admitted_refused e = subst (Admits (words_of bytes) (parting (words_of bytes) nodes servers first second) first second) e decided
-
-module _ (outcome : PartOutcome) (first second answer : List ℕ) {answer' : List ℕ} (long : 24 ≤ length answer) where
-  pub call_parted : {w first' second' : List ℕ} {space more before behind : ℕ} {one two : Side} → Halved w outcome space more one two
+module _ (outcome : PartOutcome) (first second : List ℕ) where
+  pub parts_stored : {w first' second' : List ℕ} {space more before behind : ℕ} {one two : Side} → Halved w outcome space more one two
       → (before ≡ length (side_table one w)) × (first' ≡ sets first 0 (bytes_of (side_table one w)))
       → (behind ≡ length (side_table two w)) × (second' ≡ sets second 0 (bytes_of (side_table two w)))
-      → answer' ≡ answered 3 (0 ∷ before ∷ behind ∷ []) answer → OutcomeCall outcome first second answer 1 first' second' answer'
-  call_parted h a b told = call_done _ answer _ (omega arith)
-      (record {
-        first_after = a.1 ∙ sym (ap (λ (o : PartOutcome). after (λ parts. bytes_of parts.first) o first) h.is);
-        second_after = b.1 ∙ sym (ap (λ (o : PartOutcome). after (λ parts. bytes_of parts.second) o second) h.is);
-      })
-      (told ∙ ap₂ (λ (x y : ℕ). answered 3 (0 ∷ x ∷ y ∷ []) answer) a.0 b.0 ∙ sym (ap (λ (o : PartOutcome). answered 3 (part_numbers o) answer) h.is))
+      → Stored outcome first second first' second' (Ok (record { first = before; second = behind }))
+  parts_stored h a b = record {
+    left = record {
+      first_after = a.1 ∙ sym (ap (λ (o : PartOutcome). after (λ parts. bytes_of parts.first) o first) h.is);
+      second_after = b.1 ∙ sym (ap (λ (o : PartOutcome). after (λ parts. bytes_of parts.second) o second) h.is);
+    };
+    numbers = ap₂ (λ (x y : ℕ). 0 ∷ x ∷ y ∷ []) a.0 b.0 ∙ sym (ap part_numbers h.is);
+  }
 
-  pub call_refused : {q : PartRefusal} {number place : ℕ} → outcome ≡ refused q → number ≡ part_refusal_number q → place ≡ part_refusal_place q
-      → answer' ≡ answered 2 (number ∷ place ∷ []) answer → OutcomeCall outcome first second answer 1 first second answer'
-  call_refused {q} e n p told = call_done _ answer _ (omega arith)
-      (record {
-        first_after = sym (ap (λ (o : PartOutcome). after (λ parts. bytes_of parts.first) o first) e);
-        second_after = sym (ap (λ (o : PartOutcome). after (λ parts. bytes_of parts.second) o second) e);
-      })
-      (answer-told answer n p told ∙ two_of_three (part_refusal_number q ∷ part_refusal_place q ∷ []) answer long ∙ sym (ap (λ (o : PartOutcome). answered 3 (part_numbers o) answer) e))
+  pub refused_stored : {q : PartRefusal} → outcome ≡ refused q → Stored outcome first second first second (Err q)
+  refused_stored e = record {
+    left = record {
+      first_after = sym (ap (λ (o : PartOutcome). after (λ parts. bytes_of parts.first) o first) e);
+      second_after = sym (ap (λ (o : PartOutcome). after (λ parts. bytes_of parts.second) o second) e);
+    };
+    numbers = sym (ap part_numbers e);
+  }
+
+  pub call_stored : {first' second' : List ℕ} {told : Result Counts PartRefusal} → Stored outcome first second first' second' told
+      → (answer : List ℕ) {answer' : List ℕ} → 24 ≤ length answer
+      → answer' ≡ answered 3 (told_numbers (λ counts. counts.first ∷ counts.second ∷ []) part_refusal_number part_refusal_place told) answer
+      → OutcomeCall outcome first second answer 1 first' second' answer'
+  call_stored s answer long a = call_done _ answer _ (omega arith) s.left (a ∙ ap (λ (l : List ℕ). answered 3 l answer) s.numbers)

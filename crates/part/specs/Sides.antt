@@ -1,37 +1,41 @@
 -- Both sides of a cut in the words of a table: what contracts of private functions cite. No public contract does.
 use Rattle.std.specs.Prelude.{◌≡◌, Bool, true, false, cond, List, [], ◌∷◌, ◌++◌, ℕ, zero, suc, ◌+◌, ◌-◌, ◌*◌, ◌^◌, ◌≤◌, ◌<◌, length, get_or, drop}
+use Rattle.std.specs.Prelude.{Option, Some, None, Result, Ok, Err}
+use Rattle.std.specs.Option.{option_or}
 use Rattle.outcomes.specs.Outcome.{accepted, refused}
 use Rattle.figures.specs.Bounds.{AllBelow}
 use Rattle.rooms.specs.Table.{Room, most_words, form_of, node_words}
 use Rattle.join.specs.declared.Hut.{Hut}
 use Rattle.join.specs.Pieces.{renumbered_every, renumbered_cords, piece}
-use Rattle.part.specs.Crossing.{across, or_else, nodes_behind, servers_start, servers_behind}
-use Rattle.part.specs.Outcome.{PartOutcome}
+use Rattle.calls.specs.Call.{told_numbers}
+use Rattle.part.specs.Crossing.{across, nodes_behind, servers_start, servers_behind}
+use Rattle.part.specs.Outcome.{PartOutcome, part_refusal_number, part_refusal_place, part_numbers}
+use Rattle.part.specs.Call.{PartsLeft}
 use Rattle.part.specs.declared.Side.{Side}
-use Rattle.part.specs.declared.Admitted.{Admitted}
-use Rattle.part.specs.declared.Admitted.TheVariants as answers
+use Rattle.part.specs.declared.Counts.{Counts}
+use Rattle.part.specs.declared.PartRefusal.{PartRefusal}
 
 -- ---- Words across the cut
 
 -- The index of the first word across the cut, of words that start at an index of which one is a parent, and then, after each, a gap of so
--- many is not; `skip` of them are left of a gap. 0 if there is none.
-unfoldable pub every_across : (nodes gap skip index : ℕ) → List ℕ → ℕ
-every_across nodes gap zero index (word ∷ rest) = cond (across nodes false word) index (every_across nodes gap gap (index + 1) rest)
+-- many is not; `skip` of them are left of a gap.
+unfoldable pub every_across : (nodes gap skip index : ℕ) → List ℕ → Option ℕ
+every_across nodes gap zero index (word ∷ rest) = cond (across nodes false word) (Some index) (every_across nodes gap gap (index + 1) rest)
 every_across nodes gap (suc skip) index (word ∷ rest) = every_across nodes gap skip (index + 1) rest
-every_across nodes gap zero index [] = 0
-every_across nodes gap (suc skip) index [] = 0
+every_across nodes gap zero index [] = None
+every_across nodes gap (suc skip) index [] = None
 
 -- Likewise of words of servers that start with so many cords, node and share each.
-unfoldable pub cords_across : (nodes : ℕ) (before : Bool) (cords index : ℕ) → List ℕ → ℕ
+unfoldable pub cords_across : (nodes : ℕ) (before : Bool) (cords index : ℕ) → List ℕ → Option ℕ
 cords_across nodes before (suc cords) index (node ∷ share ∷ rest) =
-    cond (across nodes before node) index (cords_across nodes before cords (index + 2) rest)
-cords_across nodes before (suc cords) index (node ∷ []) = cond (across nodes before node) index 0
-cords_across nodes before (suc cords) index [] = 0
+    cond (across nodes before node) (Some index) (cords_across nodes before cords (index + 2) rest)
+cords_across nodes before (suc cords) index (node ∷ []) = cond (across nodes before node) (Some index) None
+cords_across nodes before (suc cords) index [] = None
 cords_across nodes before zero index (rank ∷ least ∷ greatest ∷ cords ∷ rest) = cords_across nodes before cords (index + 4) rest
-cords_across nodes before zero index (rank ∷ least ∷ greatest ∷ []) = 0
-cords_across nodes before zero index (rank ∷ least ∷ []) = 0
-cords_across nodes before zero index (rank ∷ []) = 0
-cords_across nodes before zero index [] = 0
+cords_across nodes before zero index (rank ∷ least ∷ greatest ∷ []) = None
+cords_across nodes before zero index (rank ∷ least ∷ []) = None
+cords_across nodes before zero index (rank ∷ []) = None
+cords_across nodes before zero index [] = None
 
 -- How many words the server has that some words start with, and so many servers.
 abbrev pub server_span : List ℕ → ℕ
@@ -102,11 +106,11 @@ pub record SideFits (w : List ℕ) (side : Side) : Type 0 where
 abbrev pub side_words : Side → ℕ
 side_words side = 3 + (side.bottom - side.top) + (side.end - side.start)
 
--- The index of the first word across the cut between two sides; 0 if there is none.
-abbrev pub first_across : (one two : Side) → List ℕ → ℕ
+-- The index of the first word across the cut between two sides.
+abbrev pub first_across : (one two : Side) → List ℕ → Option ℕ
 first_across one two w =
-    or_else (every_across one.nodes (node_words (form_of one.version).percents - 1) 0 two.top (piece two.top two.bottom w))
-    (or_else (cords_across one.nodes true 0 one.start (piece one.start one.end w))
+    option_or (every_across one.nodes (node_words (form_of one.version).percents - 1) 0 two.top (piece two.top two.bottom w))
+    (option_or (cords_across one.nodes true 0 one.start (piece one.start one.end w))
     (cords_across one.nodes false 0 two.start (piece two.start two.end w)))
 
 -- What is admitted of a table, for outputs of so many words: both sides, whose tables are the parts; or the refusal.
@@ -117,6 +121,11 @@ pub record Halved (w : List ℕ) (outcome : PartOutcome) (first second : ℕ) (o
   pub first_space : (side_words one ≤ most_words) × (side_words one ≤ first)
   pub second_space : (side_words two ≤ most_words) × (side_words two ≤ second)
 
-abbrev pub Admits : List ℕ → PartOutcome → (first second : ℕ) → Admitted → Type 0
-Admits w outcome first second (answers.Good one two) = Halved w outcome first second one two
-Admits w outcome first second (answers.Refused refusal) = outcome ≡ refused refusal
+abbrev pub Admits : List ℕ → PartOutcome → (first second : ℕ) → Result (Side × Side) PartRefusal → Type 0
+Admits w outcome first second (Ok sides) = Halved w outcome first second sides.0 sides.1
+Admits w outcome first second (Err refusal) = outcome ≡ refused refusal
+
+-- What is stored of an outcome, and told of it.
+pub record Stored (outcome : PartOutcome) (first second first' second' : List ℕ) (told : Result Counts PartRefusal) : Type 0 where
+  pub left : PartsLeft outcome first second first' second' true
+  pub numbers : told_numbers (λ counts. counts.first ∷ counts.second ∷ []) part_refusal_number part_refusal_place told ≡ part_numbers outcome

@@ -4,23 +4,25 @@
 // there in its turn: so the call needs hardly more stack than Read, and not that of three tables.
 #![tactic(auto)]
 
-ghost use Rattle.std.specs.Prelude.{◌≡◌, suc, ◌≤◌, ◌<◌, length};
+ghost use Rattle.std.specs.Prelude.{[], ◌∷◌, suc, ◌/◌, ◌≤◌, ◌<◌, length};
+ghost use Rattle.words.specs.Bytes.{words_of};
 ghost use Rattle.rooms.specs.Table.{most_words};
 ghost use Rattle.join.specs.Huts.{HutOf};
 ghost use Rattle.part.specs.Outcome.{parting, part_refusal_number, part_refusal_place};
 ghost use Rattle.part.specs.Call.{PartCall};
-ghost use Rattle.part.specs.Sides.{Admits};
+ghost use Rattle.part.specs.Sides.{Admits, Stored};
 
 use crate::sides::{first_across, side_before, side_behind, side_words, store_side};
-use calls::LONG_ANSWER_BYTES;
-use join::{Examined, Hut};
+use calls::{Figures, LONG_ANSWER_BYTES};
+use join::Hut;
+use outcomes::Refusal;
 use rooms::{DECIDING_WORDS, SheetRefusal};
 
 pub mod sides;
 
 // Why a table is not parted: its own refusal; a count that is out of range; a link that goes across the cut, at the index of its word; or an
 // output that is too short, told with the length needed.
-#[derive(Clone, Copy)]
+#[derive(Clone, Copy, PartialEq, Eq)]
 pub enum PartRefusal {
     Table(SheetRefusal),
     NodesOutOfRange,
@@ -44,39 +46,45 @@ pub struct Side {
     pub down: u32,
 }
 
-// A cut that may be made, with both its sides; or why not.
+// How many words both parts have.
 #[derive(Clone, Copy)]
-pub enum Admitted {
-    Good(Side, Side),
-    Refused(PartRefusal),
+struct Counts {
+    first: usize,
+    second: usize,
 }
 
-impl PartRefusal {
+impl Figures<2> for Counts {
+    ghost figures_of = { λ counts. counts.first ∷ counts.second ∷ [] };
+
+    fn figures(self) -> [u64; 2] {
+        [self.first as u64, self.second as u64]
+    }
+}
+
+impl Refusal for PartRefusal {
+    ghost number_of = { part_refusal_number };
+
+    ghost place_of = { part_refusal_place };
+
     // The refusal's number.
-    pub fn number(self) -> u64
-        ensures is { result ≡ part_refusal_number self }
-    {
+    fn number(self) -> u64 {
         match self {
             PartRefusal::Table(refusal) => refusal.number(),
-            PartRefusal::NodesOutOfRange => 22,
-            PartRefusal::ServersOutOfRange => 22,
+            PartRefusal::NodesOutOfRange | PartRefusal::ServersOutOfRange => 22,
             PartRefusal::LinkAcross(_) => 23,
-            PartRefusal::FirstTooShort(_) => 12,
-            PartRefusal::SecondTooShort(_) => 12,
+            PartRefusal::FirstTooShort(_) | PartRefusal::SecondTooShort(_) => 12,
         }
     }
 
     // The refusal's place.
-    pub fn place(self) -> usize
-        ensures is { result ≡ part_refusal_place self }
-    {
+    fn place(self) -> u64 {
         match self {
             PartRefusal::Table(refusal) => refusal.place(),
             PartRefusal::NodesOutOfRange => 0,
             PartRefusal::ServersOutOfRange => 1,
-            PartRefusal::LinkAcross(index) => index,
-            PartRefusal::FirstTooShort(needed) => needed,
-            PartRefusal::SecondTooShort(needed) => needed,
+            PartRefusal::LinkAcross(place)
+            | PartRefusal::FirstTooShort(place)
+            | PartRefusal::SecondTooShort(place) => place as u64,
         }
     }
 }
@@ -115,45 +123,54 @@ fn part_by(
     if answer.len() < LONG_ANSWER_BYTES {
         return 0;
     }
+    let parted = store_parts(table, nodes, servers, words, first, second);
+    calls::tell(parted, answer);
+    1
+}
+
+// The parts in the outputs, and how many words each has.
+fn store_parts(
+    table: &[u8],
+    nodes: u64,
+    servers: u64,
+    words: &mut [u32],
+    first: &mut [u8],
+    second: &mut [u8],
+) -> Result<Counts, PartRefusal>
+    requires deciding { suc most_words ≤ length words.old }
+    ensures stored { Stored (parting (words_of table.now) nodes servers (length first.old / 4) (length second.old / 4))
+        first.old second.old first.new second.new result }
+{
     let count = words::load(table, words);
-    let admitted = admit(
+    let (one, two) = admit(
         &words[..count],
         nodes,
         servers,
         first.len() / 4,
         second.len() / 4,
-    );
-    match admitted {
-        Admitted::Good(one, two) => {
-            let before = store_side(table, one, words, first);
-            let behind = store_side(table, two, words, second);
-            calls::store_long_answer(0, before as u64, behind as u64, answer);
-            1
-        }
-        Admitted::Refused(refusal) => {
-            calls::store_answer(refusal.number(), refusal.place() as u64, answer);
-            1
-        }
-    }
+    )?;
+    Ok(Counts {
+        first: store_side(table, one, words, first),
+        second: store_side(table, two, words, second),
+    })
 }
 
-// The checks of a table and of where it is to be cut, in their order, for outputs of so many words.
-fn admit(table: &[u32], nodes: u64, servers: u64, first: usize, second: usize) -> Admitted
+// The checks of a table and of where it is to be cut, in their order, for outputs of so many words: both sides of the cut.
+fn admit(
+    table: &[u32],
+    nodes: u64,
+    servers: u64,
+    first: usize,
+    second: usize,
+) -> Result<(Side, Side), PartRefusal>
     ensures admits { Admits table.now (parting table.now nodes servers first second) first second result }
 {
-    let examined = join::examine(table);
-    let hut = match examined {
-        Examined::Good(hut) => hut,
-        Examined::Refused(refusal) => return Admitted::Refused(PartRefusal::Table(refusal)),
-    };
-    if nodes == 0 {
-        return Admitted::Refused(PartRefusal::NodesOutOfRange);
-    }
-    if hut.nodes as u64 <= nodes {
-        return Admitted::Refused(PartRefusal::NodesOutOfRange);
+    let hut = join::examine(table).map_err(PartRefusal::Table)?;
+    if nodes == 0 || hut.nodes as u64 <= nodes {
+        return Err(PartRefusal::NodesOutOfRange);
     }
     if (hut.servers as u64) < servers {
-        return Admitted::Refused(PartRefusal::ServersOutOfRange);
+        return Err(PartRefusal::ServersOutOfRange);
     }
     admit_cut(table, hut, nodes as usize, servers as usize, first, second)
 }
@@ -166,7 +183,7 @@ fn admit_cut(
     servers: usize,
     first: usize,
     second: usize,
-) -> Admitted
+) -> Result<(Side, Side), PartRefusal>
     requires hut { HutOf table.now hut }
     requires nodes { (1 ≤ nodes) × (nodes < hut.nodes) }
     requires servers { servers ≤ hut.servers }
@@ -174,17 +191,16 @@ fn admit_cut(
 {
     let one = side_before(table, hut, nodes, servers);
     let two = side_behind(hut, one);
-    let across = first_across(table, one, two);
-    if across != 0 {
-        return Admitted::Refused(PartRefusal::LinkAcross(across));
+    if let Some(index) = first_across(table, one, two) {
+        return Err(PartRefusal::LinkAcross(index));
     }
     let before = side_words(one);
     if first < before {
-        return Admitted::Refused(PartRefusal::FirstTooShort(before));
+        return Err(PartRefusal::FirstTooShort(before));
     }
     let behind = side_words(two);
     if second < behind {
-        return Admitted::Refused(PartRefusal::SecondTooShort(behind));
+        return Err(PartRefusal::SecondTooShort(behind));
     }
-    Admitted::Good(one, two)
+    Ok((one, two))
 }

@@ -12,9 +12,9 @@ ghost use Rattle.part.specs.Sides.{every_across, cords_across, server_span, span
 ghost use Rattle.part.specs.Sides.{side_before, behind_of, side_table, side_words, SideFits};
 
 use crate::Side;
-use figures::index_word;
 use join::Hut;
-use join::pieces::{count_at, node_width, put_nodes, put_servers};
+use join::pieces::{Shift, count_at, node_width, put_nodes, put_servers};
+use std::ops::Range;
 
 // ---- Where the sides stand
 
@@ -27,11 +27,11 @@ pub fn side_before(table: &[u32], hut: Hut, nodes: usize, servers: usize) -> Sid
     let start = hut.middle + 1;
     Side {
         version: hut.version,
-        nodes: nodes,
+        nodes,
         top: 2,
         bottom: 2 + node_width(hut.version) * nodes,
-        servers: servers,
-        start: start,
+        servers,
+        start,
         end: servers_end(table, start, servers),
         down: 0,
     }
@@ -50,7 +50,7 @@ pub fn side_behind(hut: Hut, one: Side) -> Side
         servers: hut.servers - one.servers,
         start: one.end,
         end: hut.words,
-        down: index_word(one.nodes),
+        down: one.nodes as u32,
     }
 }
 
@@ -90,69 +90,70 @@ pub fn side_words(side: Side) -> usize
 
 // ---- Links across the cut
 
-// The index of the first word of a good table that names a node on the other side of the cut; 0 if there is none.
-pub fn first_across(table: &[u32], one: Side, two: Side) -> usize
+// The index of the first word of a good table that names a node on the other side of the cut.
+pub fn first_across(table: &[u32], one: Side, two: Side) -> Option<usize>
     requires fits { SideFits table.now one × SideFits table.now two }
     ensures is { result ≡ first_across one two table.now }
 {
-    let nodes = index_word(one.nodes);
-    let parent = parent_across(table, node_width(one.version), nodes, two.top, two.bottom);
-    if parent != 0 {
+    let nodes = one.nodes as u32;
+    let parent = parent_across(table, two.top..two.bottom, node_width(one.version), nodes);
+    if parent.is_some() {
         return parent;
     }
-    let cord = cord_across(table, nodes, true, one.start, one.end);
-    if cord != 0 {
+    let cord = cord_across(table, one.start..one.end, nodes, true);
+    if cord.is_some() {
         return cord;
     }
-    cord_across(table, nodes, false, two.start, two.end)
+    cord_across(table, two.start..two.end, nodes, false)
 }
 
-// The index of the first parent across the cut, of nodes behind it whose words, `width` each, stand from one index to another.
-fn parent_across(table: &[u32], width: usize, nodes: u32, from: usize, to: usize) -> usize
-    requires width { (1 ≤ width) × (width ≤ 3) }
-    requires there { to ≤ length table.now }
-    ensures is { result ≡ every_across nodes (width - 1) 0 from (piece from to table.now) }
+// The index of the first parent across the cut, of nodes behind it that stand in a span of words, `width` each.
+fn parent_across(table: &[u32], span: Range<usize>, width: usize, nodes: u32) -> Option<usize>
+    requires width { 1 ≤ width }
+    requires there { span.end ≤ length table.now }
+    ensures is { result ≡ every_across nodes (width - 1) 0 span.start (piece span.start span.end table.now) }
 {
-    let mut i = from;
-    while i < to {
+    for i in (span.start..span.end).step_by(width) {
         if across(table[i], nodes, false) {
-            return i;
+            return Some(i);
         }
-        i += width;
     }
-    0
+    None
 }
 
 // Likewise of cords, of servers that stand before the cut or behind it.
-fn cord_across(table: &[u32], nodes: u32, before: bool, from: usize, to: usize) -> usize
-    requires there { to ≤ length table.now }
-    ensures is { result ≡ cords_across nodes before 0 from (piece from to table.now) }
+// By hand: how far a step goes stands in the words themselves, 4 or 2 of them, so that no range has these steps.
+fn cord_across(table: &[u32], span: Range<usize>, nodes: u32, before: bool) -> Option<usize>
+    requires there { span.end ≤ length table.now }
+    ensures is { result ≡ cords_across nodes before 0 span.start (piece span.start span.end table.now) }
 {
-    let mut i = from;
+    let mut i = span.start;
     let mut left = 0;
-    while i < to {
+    while i < span.end {
         if left == 0 {
             left = count_at(table, i);
             i += 4;
         } else {
             if across(table[i], nodes, before) {
-                return i;
+                return Some(i);
             }
             i += 2;
             left -= 1;
         }
     }
-    0
+    None
 }
 
 // Whether a number, of something before the cut or behind it, is that of a node on the other side.
+// By hand: `before` is the definition's own (`across`); a closure for it would need a predicate besides, in the contract of each loop.
 fn across(number: u32, nodes: u32, before: bool) -> bool
     ensures is { result ≡ across nodes before number }
 {
     if before {
-        return nodes < number;
+        nodes < number
+    } else {
+        1 <= number && number <= nodes
     }
-    1 <= number && number <= nodes
 }
 
 // ---- The table of a side
@@ -176,9 +177,13 @@ fn put_side(table: &[u8], side: Side, words: &mut [u32]) -> usize
     ensures put { PiecePut words.old 0 (side_table side (words_of table.now)) words.new result }
 {
     let width = node_width(side.version);
+    let shift = Shift {
+        up: 0,
+        down: side.down,
+    };
     words[0] = side.version;
-    words[1] = index_word(side.nodes);
-    let middle = put_nodes(table, side.top, side.bottom, width, 0, side.down, words, 2);
-    words[middle] = index_word(side.servers);
-    put_servers(table, side.start, side.end, 0, side.down, words, middle + 1)
+    words[1] = side.nodes as u32;
+    let middle = put_nodes(table, side.top..side.bottom, width, shift, words, 2);
+    words[middle] = side.servers as u32;
+    put_servers(table, side.start..side.end, shift, words, middle + 1)
 }

@@ -1,15 +1,15 @@
 -- Laws of texts that are put into a buffer, one after the other.
-use mathlib.Core.Path.{◌≡◌, refl, sym, ap, ◌∙◌}
+use mathlib.Core.Path.{◌≡◌, refl, sym, ap, ap₂, ◌∙◌}
 use mathlib.Core.Bool.{Bool, true, false}
 use mathlib.Core.List.{List, [], ◌∷◌, ◌++◌, append_assoc, append-nil}
-use Prim.Native.Nat.{ℕ, suc, ◌+◌, ◌-◌, ◌≤◌, ◌<◌, min}
+use Prim.Native.Nat.{ℕ, zero, suc, ◌+◌, ◌-◌, ◌≤◌, ◌<◌, min}
 use native.Mathlib.Omega.{arith}
 use native.Mathlib.Numerals.{add-one}
 use borrow.Author.Tests.{leb-true, leb-false}
 use lib.Dec.{leb}
 use lib.ListN.{length, get_or, set, take, drop, length-set, length-append, take-append-drop}
 use lib.Seq.{sets, length-sets, set_out, take-suc, take_all, take-length, length-take-le}
-use Rattle.figures.proofs.Stores.{sets-append, take-sets}
+use Rattle.figures.proofs.Stores.{sets_nil, sets_cons, sets-append, sets_all, take-sets, sets_in_front}
 use Rattle.io.specs.Counts.{IsPrefixLen}
 use Rattle.print.specs.Line.{Put}
 
@@ -75,48 +75,26 @@ put_whole {a} {b} {n} {s} p h =
     let all : n ≡ length s = omega (arith, p.past) in
     rw (p.bytes, all) (take-sets (length s) a s h (omega arith) ∙ take-length s)
 
--- ---- the loop over a text's bytes
+-- ---- a text's bytes
 
--- i bytes of the text stand in the buffer.
-pub record Copying (text a : List ℕ) (at : ℕ) (b : List ℕ) (i : ℕ) : Type 0 where
-  pub within : at + i ≤ length a
-  pub bound : i ≤ length text
-  pub bytes : b ≡ sets a at (take i text)
-  pub size : length b ≡ length a
+-- So many bytes of a text as fit, in the place of as many of a list.
+copied_over : (l t : List ℕ) (at n : ℕ) → n ≡ min (length t) (length l - at) → take at l ++ (take n t ++ drop n (drop at l)) ≡ sets l at t
+copied_over l t zero n e =
+    let size : length (take n l) ≡ length (take n t) = length-take-le n l (omega arith) ∙ sym (length-take-le n t (omega arith)) in
+    sym (ap (λ (r : List ℕ). r ++ drop n l) (sets_all (take n l) (take n t) size)) ∙ sets_in_front n l t (omega arith)
+copied_over [] t (suc at) n e =
+    let none : n ≡ 0 = omega arith in
+    rw none (sym (sets_nil (suc at) t))
+copied_over (x ∷ l) t (suc at) n e = ap (λ (r : List ℕ). x ∷ r) (copied_over l t at n (omega arith)) ∙ sym (sets_cons x l at t)
 
-pub copying_first : (text a : List ℕ) (at : ℕ) → at ≤ length a → Copying text a at a 0
-copying_first text a at h = record { within = omega arith; bound = omega arith; bytes = refl; size = refl }
-
-pub copying_next : (text a : List ℕ) (at : ℕ) (b : List ℕ) (i : ℕ) → Copying text a at b i → i < length text → at + i < length a
-    → Copying text a at (set b (at + i) (get_or text i 0)) (i + 1)
-copying_next text a at b i g h k =
-    let n : length (take i text) ≡ i = length-take-le i text (omega arith) in
-    let more : sets a at (take (i + 1) text) ≡ set (sets a at (take i text)) (at + i) (get_or text i 0) =
-    rw (add-one, take-suc text i 0 h, sets-append, n) in
+pub put_copied : (text a : List ℕ) (at : ℕ) {n : ℕ} {part b : List ℕ} → at ≤ length a → n ≡ min (length text) (length a - at) → part ≡ take n text
+    → b ≡ take at a ++ (part ++ drop (at + n - at) (drop at a)) → Put a at b (at + n) text
+put_copied text a at {n} h e is whole =
+    let same : at + n - at ≡ n = omega arith in
     record {
-      within = omega arith;
-      bound = omega arith;
-      bytes = rw g.bytes (sym more);
-      size = length-set b (at + i) (get_or text i 0) ∙ g.size;
+      bytes = whole ∙ ap₂ (λ (p : List ℕ) (k : ℕ). take at a ++ (p ++ drop k (drop at a))) is same ∙ copied_over a text at n e;
+      past = omega arith;
     }
-
-pub copying_last : (text a : List ℕ) (at : ℕ) (b : List ℕ) (i r : ℕ) → Copying text a at b i
-    → min (length text) (length a - at) ≤ i → r ≡ at + i → Put a at b r text
-copying_last text a at b i r g h e =
-    record {
-      bytes = g.bytes ∙ rest (leb (length text) i) refl;
-      past = omega (arith, g.within, g.bound);
-    }
-  where
-    rest : (test : Bool) → leb (length text) i ≡ test → sets a at (take i text) ≡ sets a at text
-    rest true e = rw (take_all i text (leb-true _ _ e))
-    rest false e =
-        let over = leb-false (length text) i e in
-        let n : length (take i text) ≡ i = length-take-le i text g.bound in
-        sym
-        (sets_past (sets a at (take i text)) (at + length (take i text)) (drop i text)
-        (omega (arith, length-sets a at (take i text), g.within)))
-        ∙ sym (sets-append a at (take i text) (drop i text)) ∙ ap (sets a at) (take-append-drop i text)
 
 -- ---- loops over lines
 

@@ -11,24 +11,24 @@ ghost use Rattle.rooms.specs.Part.{Good};
 ghost use Rattle.rooms.specs.Limits.{checked};
 ghost use Rattle.rooms.specs.Rows.{OfRoom, ServersFit, CordsFit, node_column};
 
-use figures::counts::least;
-use figures::{index, word_index};
+use outcomes::Refusal;
 use rooms::lists::{CORD_COUNT, NODE};
 use rooms::{MOST_CORDS, MOST_SERVER_CORDS, MOST_SERVERS};
 
+// The lists of a plan: a cap for each server; and for each cord a grant, its headroom, and the node that holds it.
+#[derive(Clone, Copy)]
+pub struct Lists<'a> {
+    pub caps: &'a [u32],
+    pub grants: &'a [u32],
+    pub headroom: &'a [u32],
+    pub held: &'a [u32],
+}
+
 // The print of a good table's plan, at the front of the buffer: as much as fits. The result is how many bytes that is.
-pub fn plan(
-    freed: u64,
-    table: &[u32],
-    caps: &[u32],
-    grants: &[u32],
-    headroom: &[u32],
-    held: &[u32],
-    buffer: &mut [u8],
-) -> usize
+pub fn plan(freed: u64, table: &[u32], lists: Lists, buffer: &mut [u8]) -> usize
     requires good { Good (checked table.now 0) }
     ensures put { OfRoom table.now (λ room. Put buffer.old 0 buffer.new result
-        (print_of freed room.servers caps.now grants.now headroom.now held.now)) }
+        (print_of freed room.servers lists.entry.caps.now lists.entry.grants.now lists.entry.headroom.now lists.entry.held.now)) }
     ensures counts { IsPrefixLen result buffer.new }
 {
     let mut servers = [[0u32; 4]; MOST_SERVERS];
@@ -40,10 +40,7 @@ pub fn plan(
         table,
         &mut servers[..server_count],
         &mut cords[..cord_count],
-        caps,
-        grants,
-        headroom,
-        held,
+        lists,
         buffer,
     )
 }
@@ -54,20 +51,17 @@ fn plan_by(
     table: &[u32],
     servers: &mut [[u32; 4]],
     cords: &mut [[u16; 4]],
-    caps: &[u32],
-    grants: &[u32],
-    headroom: &[u32],
-    held: &[u32],
+    lists: Lists,
     buffer: &mut [u8],
 ) -> usize
     requires good { Good (checked table.now 0) }
     requires sizes { ServersFit table.now (length servers.old) × CordsFit table.now (length cords.old) }
     ensures put { OfRoom table.now (λ room. Put buffer.old 0 buffer.new result
-        (print_of freed room.servers caps.now grants.now headroom.now held.now)) }
+        (print_of freed room.servers lists.entry.caps.now lists.entry.grants.now lists.entry.headroom.now lists.entry.held.now)) }
     ensures counts { IsPrefixLen result buffer.new }
 {
     rooms::lists::lay_out_servers(table, servers, cords);
-    put_plan(freed, servers, cords, caps, grants, headroom, held, buffer)
+    put_plan(freed, servers, cords, lists, buffer)
 }
 
 // The print of a plan by the rows of its servers and cords.
@@ -75,28 +69,24 @@ fn put_plan(
     freed: u64,
     servers: &[[u32; 4]],
     cords: &[[u16; 4]],
-    caps: &[u32],
-    grants: &[u32],
-    headroom: &[u32],
-    held: &[u32],
+    lists: Lists,
     buffer: &mut [u8],
 ) -> usize
     ensures put { Put buffer.old 0 buffer.new result
-        (plan_print freed servers.now cords.now caps.now grants.now headroom.now
-        held.now) }
+        (plan_print freed servers.now cords.now lists.entry.caps.now lists.entry.grants.now lists.entry.headroom.now lists.entry.held.now) }
     ensures counts { IsPrefixLen result buffer.new }
 {
-    let next = put_freed(freed as usize, buffer, 0);
-    put_servers(servers, cords, caps, grants, headroom, held, buffer, next)
+    let next = put_freed(freed, buffer, 0);
+    put_servers(servers, cords, lists, buffer, next)
 }
 
 // The print of a refusal, at the front of the buffer: as much as fits. The result is how many bytes that is.
-pub fn refusal(number: u64, place: usize, buffer: &mut [u8]) -> usize
-    ensures put { Put buffer.old 0 buffer.new result (refused_line number place) }
+pub fn refusal<R: Refusal>(refusal: R, buffer: &mut [u8]) -> usize
+    ensures put { Put buffer.old 0 buffer.new result (refused_line (R.number_of refusal) (R.place_of refusal)) }
     ensures counts { IsPrefixLen result buffer.new }
 {
-    let a = put_figure(b"refused ", number as usize, buffer, 0);
-    let b = put_figure(b" at ", place, buffer, a);
+    let a = put_figure(b"refused ", refusal.number(), buffer, 0);
+    let b = put_figure(b" at ", refusal.place(), buffer, a);
     put(b"\n", buffer, b)
 }
 
@@ -104,26 +94,22 @@ pub fn refusal(number: u64, place: usize, buffer: &mut [u8]) -> usize
 fn put_servers(
     servers: &[[u32; 4]],
     cords: &[[u16; 4]],
-    caps: &[u32],
-    grants: &[u32],
-    headroom: &[u32],
-    held: &[u32],
+    lists: Lists,
     buffer: &mut [u8],
     start: usize,
 ) -> usize
     requires start { start ≤ length buffer.old }
     ensures put { Put buffer.old start buffer.new result
-        (walk_print servers.now cords.now caps.now
-        (plan_line grants.now headroom.now held.now)) }
+        (walk_print servers.now cords.now lists.entry.caps.now
+        (plan_line lists.entry.grants.now lists.entry.headroom.now lists.entry.held.now)) }
 {
-    let count = least(servers.len(), MOST_SERVERS);
-    let mut first = 0usize;
+    let count = servers.len().min(MOST_SERVERS);
+    let mut first = 0;
     let mut next = start;
-    for v in 0..count {
-        let few = least(word_index(servers[v][CORD_COUNT]), MOST_SERVER_CORDS);
-        let line = put_server(v + 1, word(caps, v), buffer, next);
-        let past = put_cords(few, cords, grants, headroom, held, first, buffer, line);
-        next = past;
+    for (v, server) in servers[..count].iter().enumerate() {
+        let few = (server[CORD_COUNT] as usize).min(MOST_SERVER_CORDS);
+        next = put_server((v + 1) as u64, figure(lists.caps, v), buffer, next);
+        next = put_cords(few, cords, lists, first, buffer, next);
         first += few;
     }
     next
@@ -133,46 +119,47 @@ fn put_servers(
 fn put_cords(
     count: usize,
     cords: &[[u16; 4]],
-    grants: &[u32],
-    headroom: &[u32],
-    held: &[u32],
+    lists: Lists,
     first: usize,
     buffer: &mut [u8],
     start: usize,
 ) -> usize
     requires in_range { (count ≤ 4) × (first < 2 ^ 34) × (start ≤ length buffer.old) }
     ensures put { Put buffer.old start buffer.new result
-        (lines_from count 0 (cord_line_at cords.now (plan_line grants.now headroom.now held.now) first)) }
+        (lines_from count 0 (cord_line_at cords.now
+        (plan_line lists.entry.grants.now lists.entry.headroom.now lists.entry.held.now) first)) }
 {
     let mut next = start;
     for k in 0..count {
-        let past = put_cord(
-            k + 1,
+        next = put_cord(
+            (k + 1) as u64,
             node(cords, first + k),
-            word(grants, first + k),
-            word(headroom, first + k),
-            word(held, first + k),
+            figure(lists.grants, first + k),
+            figure(lists.headroom, first + k),
+            figure(lists.held, first + k),
             buffer,
             next,
         );
-        next = past;
     }
     next
 }
 
 // The node of the cord at a place; 0 past the last.
-fn node(cords: &[[u16; 4]], place: usize) -> usize
+fn node(cords: &[[u16; 4]], place: usize) -> u64
     ensures result { result ≡ cell cords.now place node_column }
 {
-    if place < cords.len() {
-        index(cords[place][NODE])
-    } else {
-        0
-    }
+    cords.get(place).map_or(0, |row| u64::from(row[NODE]))
+}
+
+// The figure at a place of a list; 0 past its end.
+fn figure(list: &[u32], place: usize) -> u64
+    ensures result { result ≡ at list.now place }
+{
+    list.get(place).map_or(0, |word| u64::from(*word))
 }
 
 // `freed F`.
-fn put_freed(watts: usize, buffer: &mut [u8], start: usize) -> usize
+fn put_freed(watts: u64, buffer: &mut [u8], start: usize) -> usize
     requires start { start ≤ length buffer.old }
     ensures put { Put buffer.old start buffer.new result (freed_line watts) }
 {
@@ -181,7 +168,7 @@ fn put_freed(watts: usize, buffer: &mut [u8], start: usize) -> usize
 }
 
 // `server N cap W`.
-fn put_server(number: usize, cap: usize, buffer: &mut [u8], start: usize) -> usize
+fn put_server(number: u64, cap: u64, buffer: &mut [u8], start: usize) -> usize
     requires start { start ≤ length buffer.old }
     ensures put { Put buffer.old start buffer.new result (server_line number cap) }
 {
@@ -192,11 +179,11 @@ fn put_server(number: usize, cap: usize, buffer: &mut [u8], start: usize) -> usi
 
 // `cord K node M grant G headroom W held B`.
 fn put_cord(
-    number: usize,
-    node: usize,
-    grant: usize,
-    headroom: usize,
-    held: usize,
+    number: u64,
+    node: u64,
+    grant: u64,
+    headroom: u64,
+    held: u64,
     buffer: &mut [u8],
     start: usize,
 ) -> usize
@@ -212,7 +199,8 @@ fn put_cord(
 }
 
 // A word of a line and the figure after it, from a place on.
-fn put_figure(word: &[u8], figure: usize, buffer: &mut [u8], start: usize) -> usize
+// By hand: what `write!` leaves in a buffer that is too short no contract of the library says, and `Put` says every byte of it.
+fn put_figure(word: &[u8], figure: u64, buffer: &mut [u8], start: usize) -> usize
     requires start { start ≤ length buffer.old }
     ensures put { Put buffer.old start buffer.new result (labelled word.now figure) }
 {
@@ -221,34 +209,23 @@ fn put_figure(word: &[u8], figure: usize, buffer: &mut [u8], start: usize) -> us
 }
 
 // A number in decimal, from a place on.
-fn put_decimal(number: usize, buffer: &mut [u8], start: usize) -> usize
+fn put_decimal(number: u64, buffer: &mut [u8], start: usize) -> usize
     requires start { start ≤ length buffer.old }
     ensures put { Put buffer.old start buffer.new result (decimal number) }
 {
     let mut digits = [0u8; 20];
-    let count = io::decimal(number as u64, &mut digits);
+    let count = io::decimal(number, &mut digits);
     put(&digits[..count], buffer, start)
 }
 
 // Some bytes, from a place on: as many as fit.
+// By hand: a struct of the buffer and the place would add to each contract here a clause that it still holds the same buffer.
 fn put(text: &[u8], buffer: &mut [u8], start: usize) -> usize
     requires start { start ≤ length buffer.old }
     ensures put { Put buffer.old start buffer.new result text.now }
 {
-    let count = least(text.len(), buffer.len() - start);
-    for i in 0..count {
-        buffer[start + i] = text[i];
-    }
-    start + count
-}
-
-// A word of a list; 0 past its end.
-fn word(list: &[u32], place: usize) -> usize
-    ensures result { (result ≡ at list.now place) × (result < 4294967296) }
-{
-    if place < list.len() {
-        list[place] as usize
-    } else {
-        0
-    }
+    let count = text.len().min(buffer.len() - start);
+    let next = start + count;
+    buffer[start..next].copy_from_slice(&text[..count]);
+    next
 }

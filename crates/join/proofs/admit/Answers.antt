@@ -2,15 +2,9 @@
 use mathlib.Core.Path.{◌≡◌, sym, ap, ◌∙◌}
 use native.Mathlib.Omega.{arith}
 use Rattle.join.specs.Outcome.{answer_of}
-use Rattle.join.specs.declared.JoinAnswer.TheVariants.{Accepted}
+use Rattle.std.proofs.Common.{Ok}
 use Rattle.join.proofs.HutLaws.{versions_differ, too_many-nodes, too_many-servers, too_many-cords, table_long, list_short, fits}
 use Rattle.join.proofs.admit.Goals as goal
-
-pub overflow_add-words : goal.overflow_add-words
-overflow_add-words c = omega (arith, c.requires.small.0.words.1, c.requires.small.1.words.1)
-
-pub overflow_sub-words : goal.overflow_sub-words
-overflow_sub-words c = omega (arith, c.requires.small.0.words.0)
 
 pub returns-then-version-other : goal.returns-then-version-other
 returns-then-version-other c = record { answers = λ f s a b. sym (ap answer_of (versions_differ f s _ a b (omega (arith, c.if-version-other.true)))) }
@@ -33,6 +27,6 @@ returns c =
       answers =
           let same : c.args.one.version ≡ c.args.two.version = omega (arith, c.if-version-other.false) in
           λ f s a b.
-          ap Accepted (sym (table_long f s c.args.space a b same))
+          ap Ok (sym (table_long f s c.args.space a b same))
           ∙ sym (ap answer_of (fits f s _ a b same (omega (arith, c.if-nodes-gt-MOST_NODES.false)) (omega (arith, c.if-servers-gt-MOST_SERVERS.false)) (omega (arith, c.if-cords-gt-MOST_CORDS.false)) (omega (arith, c.if-space-words.false))));
     }

@@ -1,5 +1,5 @@
 -- `middle_in` meets its contract: the count of servers stands behind the nodes.
-use mathlib.Core.Path.{◌∙◌}
+use Prim.Native.Nat.{◌<◌, ◌^◌}
 use native.Mathlib.Omega.{arith}
 use Rattle.words.specs.Bytes.{words_of}
 use Rattle.words.proofs.Bytes.{length-words_of}
@@ -15,9 +15,6 @@ word_in-requires-2 c = record { there = omega (arith, counts_in c.args.bytes.now
 
 pub returns : goal.returns
 returns c =
-    record {
-      is =
-          let is = index_told (words_of c.args.bytes.now) c.word_in.ensures.is c.has_percents-percents.ensures.result
-          (c.word_index.ensures.result.0 ∙ c.word_in-2.ensures.is) c.word_index.ensures.result.1 c.node_index.ensures.result in
-          (is.0, omega (arith, is.0, length-words_of c.args.bytes.now, middle_there (words_of c.args.bytes.now) c.requires.good));
-    }
+    let small : c.word_in-2.result < 2 ^ 32 = omega arith in
+    let is = index_told (words_of c.args.bytes.now) c.word_in.ensures.is c.has_percents-percents.ensures.result c.word_in-2.ensures.is small c.node_index.ensures.result in
+    record { is = (is.0, omega (arith, is.0, length-words_of c.args.bytes.now, middle_there (words_of c.args.bytes.now) c.requires.good)) }

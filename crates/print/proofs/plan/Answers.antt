@@ -21,13 +21,3 @@ plan_by-requires c =
       good = c.requires.good;
       sizes = (servers-lent _ c.requires.good c.server_count-server_count.ensures.count (replicate 4 0), cords-lent _ c.requires.good c.cord_count-cord_count.ensures.count (replicate 4 0));
     }
-
-pub shape_of-buffer : goal.shape_of-buffer
-shape_of-buffer c = c.plan_by.auto.buffer
-
-pub returns : goal.returns
-returns c =
-    record {
-      put = c.plan_by.ensures.put;
-      counts = c.plan_by.ensures.counts;
-    }

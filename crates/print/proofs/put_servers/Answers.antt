@@ -2,27 +2,25 @@
 use borrow.Author.Rules.{rules}
 use native.Mathlib.Omega.{arith}
 use mathlib.Core.Path.{ap, ◌∙◌}
+use mathlib.Core.List.{List, []}
 use Prim.Native.Nat.{ℕ, min}
-use Rattle.print.proofs.Putting.{putting_within}
+use lib.Seq.{length-take-le, get_or-take}
+use Rattle.figures.specs.Figures.{at}
+use Rattle.rooms.specs.Rows.{cord_count_column}
 use Rattle.print.proofs.Turns.{walking_first, walking_next, walked}
 use Rattle.print.proofs.put_servers.Goals as goal
 
 pub loop-v-init : goal.loop-v-init
 loop-v-init c = walking_first _ _ _ _ _ _ _ (search rules) (omega arith)
 
-pub put_server-line-requires : goal.put_server-line-requires
-put_server-line-requires c = record { start = putting_within c.loop-v.invariant.put }
-
 pub loop-v-preserved : goal.loop-v-preserved
 loop-v-preserved c =
-    walking_next _ _ _ _ _ _ _ _ _ _ _ c.loop-v.invariant (omega arith)
-    c.word.ensures.result.0
-    (c.least-few.ensures.result
-    ∙ ap (λ (n : ℕ). min n 4) c.word_index.ensures.result.0)
-    c.put_server-line.ensures.put c.put_cords-past.ensures.put
-
-pub shape_of-buffer : goal.shape_of-buffer
-shape_of-buffer c = c.loop-v.invariant.size
+    let few = length-take-le c.min-count.result c.args.servers.now (omega (arith, c.min-count.ensures)) in
+    let row = get_or-take c.min-count.result c.args.servers.now c.loop-v.v [] (omega (arith, c.loop-v-test.true)) in
+    walking_next _ _ _ _ _ _ _ _ _ _ _ c.loop-v.invariant (omega (arith, c.loop-v-test.true)) c.figure.ensures.result
+    (c.min-few.ensures ∙ ap (λ (r : List ℕ). min (at r cord_count_column) 4) row) c.put_server-next.ensures.put c.put_cords-next.ensures.put
 
 pub returns : goal.returns
-returns c = record { put = walked c.loop-v.invariant (omega arith) c.least-count.ensures.result }
+returns c =
+    let few = length-take-le c.min-count.result c.args.servers.now (omega (arith, c.min-count.ensures)) in
+    record { put = walked c.loop-v.invariant (omega (arith, c.loop-v-test.false)) c.min-count.ensures }

@@ -5,9 +5,6 @@ use Rattle.print.proofs.refusal.Goals as goal
 
 pub returns : goal.returns
 unfolding refused_line
-returns c =
+returns g c =
     let put = then c.put_figure-a.ensures.put (then c.put_figure-b.ensures.put c.put.ensures.put) in
-    record {
-      put = put;
-      counts = counts put;
-    }
+    record { put = rw (c.number.ensures.result, c.place.ensures.result) at put; counts = counts put }

@@ -8,13 +8,15 @@ pub loop-i-init : goal.loop-i-init
 loop-i-init c = refl
 
 pub returns-then-across : goal.returns-then-across
-returns-then-across c = record { is = parent_found _ _ _ _ _ c.loop-i-test.true c.requires.there c.across.ensures.is c.if-across.true ∙ c.loop-i.invariant }
-
-pub loop-i-smaller : goal.loop-i-smaller
-loop-i-smaller c = omega (arith, c.loop-i-test.true, c.requires.width)
+returns-then-across c = record { is = parent_found _ _ _ _ _ (omega arith) c.requires.there c.across.ensures.is c.if-across.true ∙ c.loop-i.invariant }
 
 pub loop-i-preserved : goal.loop-i-preserved
-loop-i-preserved c = parents_again _ _ _ _ _ c.requires.width.0 c.loop-i-test.true c.requires.there c.across.ensures.is c.if-across.false c.loop-i.invariant
+loop-i-preserved c = parents_again _ _ _ _ _ c.requires.width (omega arith) c.requires.there c.across.ensures.is c.if-across.false c.loop-i.invariant
 
 pub returns : goal.returns
-returns c = record { is = parents_end _ _ _ _ _ (omega (arith, c.loop-i-test.false)) ∙ c.loop-i.invariant }
+returns c = record { is = parents_end _ _ _ _ _ (omega arith) ∙ c.loop-i.invariant }
+
+-- No index is left behind the last one.
+pub returns-else-across : goal.returns-else-across
+returns-else-across c =
+    record { is = parents_end _ _ _ _ _ (omega arith) ∙ parents_again _ _ _ _ _ c.requires.width (omega arith) c.requires.there c.across.ensures.is c.if-across.false c.loop-i.invariant }

@@ -1,63 +1,43 @@
 -- `put_side` meets its contract: piece by piece behind the others.
-use mathlib.Core.Path.{◌≡◌, ◌∙◌}
+use mathlib.Core.Path.{◌≡◌, refl, ◌∙◌}
 use Prim.Native.Nat.{◌+◌, ◌-◌, ◌<◌}
 use native.Mathlib.Omega.{arith}
 use lib.ListN.{length, length-set}
 use Rattle.join.proofs.Together.{head_length}
 use Rattle.part.proofs.SidesMade.{may_nodes, middle_ends, may_servers, side_put}
-use borrow.Author.Rules.{rules}
 use Rattle.part.proofs.sides.put_side.Goals as goal
+use Rattle.part.proofs.sides.put_side.Goals.{After-put_nodes-middle}
 
-pub bounds-words-1 : goal.bounds-words-1
-bounds-words-1 c =
-    let there : 1 < length c.args.words.now = omega (arith, c.requires.space) in
-    simp length-set (search rules)
+-- Where the nodes end, and the list as long as it was.
+middle_at : (c : After-put_nodes-middle)
+    → (c.put_nodes-middle.result ≡ 2 + (c.args.side.bottom - c.args.side.top)) × (length c.put_nodes-middle.new.words ≡ length c.args.words.now)
+middle_at c = (
+  middle_ends c.args.table.now c.args.side c.requires.fits c.args.words.now c.requires.space _ _ c.put_nodes-middle.ensures.put,
+  c.put_nodes-middle.ensures.put.size ∙ head_length c.args.words.now c.args.side.version c.args.side.nodes,
+)
 
-pub put_nodes-middle-requires : goal.put_nodes-middle-requires
-put_nodes-middle-requires c =
-    record {
-      may_put = may_nodes c.args.table.now c.args.side c.requires.fits c.args.words.now c.requires.space (head_length c.args.words.now c.args.side.version c.index_word.result);
-      fits = (omega (arith, c.node_width-width.ensures.is.1), c.node_width-width.ensures.is.2, omega arith, c.requires.fits.below);
-    }
+room_left : (c : After-put_nodes-middle) → c.put_nodes-middle.result < length c.put_nodes-middle.new.words
+room_left c =
+    let middle = middle_at c in
+    omega (arith, middle.0, middle.1, c.requires.space)
 
-pub offset_bounds-words-middle : goal.offset_bounds-words-middle
-offset_bounds-words-middle c =
-    let ends : c.put_nodes-middle.result ≡ 2 + (c.args.side.bottom - c.args.side.top) = middle_ends c.args.table.now c.args.side c.requires.fits c.args.words.now c.requires.space _ _ c.put_nodes-middle.ensures.put in
-    omega (arith, ends, c.requires.fits.long, c.requires.fits.node_words_there.1)
+pub put_nodes-middle-requires-clause-may_put : goal.put_nodes-middle-requires-clause-may_put
+put_nodes-middle-requires-clause-may_put c =
+    may_nodes c.args.table.now c.args.side c.requires.fits c.args.words.now c.requires.space (head_length c.args.words.now c.args.side.version c.args.side.nodes)
 
 pub bounds-words-middle : goal.bounds-words-middle
-bounds-words-middle c =
-    let ends : c.put_nodes-middle.result ≡ 2 + (c.args.side.bottom - c.args.side.top) = middle_ends c.args.table.now c.args.side c.requires.fits c.args.words.now c.requires.space _ _ c.put_nodes-middle.ensures.put in
-    let size : length c.put_nodes-middle.new.words ≡ length c.args.words.now = c.put_nodes-middle.ensures.put.size ∙ head_length c.args.words.now c.args.side.version c.index_word.result in
-    omega (arith, ends, size, c.requires.space)
+bounds-words-middle c = room_left (goal.at.bounds-words-middle c).After-put_nodes-middle
 
-pub overflow_add-middle : goal.overflow_add-middle
-overflow_add-middle c =
-    let ends : c.put_nodes-middle.result ≡ 2 + (c.args.side.bottom - c.args.side.top) = middle_ends c.args.table.now c.args.side c.requires.fits c.args.words.now c.requires.space _ _ c.put_nodes-middle.ensures.put in
-    omega (arith, ends, c.requires.fits.long, c.requires.fits.node_words_there.1)
-
-pub put_servers-requires : goal.put_servers-requires
-put_servers-requires c =
-    let ends : c.put_nodes-middle.result ≡ 2 + (c.args.side.bottom - c.args.side.top) = middle_ends c.args.table.now c.args.side c.requires.fits c.args.words.now c.requires.space _ _ c.put_nodes-middle.ensures.put in
-    let size : length c.put_nodes-middle.new.words ≡ length c.args.words.now = c.put_nodes-middle.ensures.put.size ∙ head_length c.args.words.now c.args.side.version c.index_word.result in
-    record {
-      may_put = may_servers c.args.table.now c.args.side c.requires.fits c.args.words.now c.requires.space
-          (length-set c.put_nodes-middle.new.words c.put_nodes-middle.result c.index_word-2.result ∙ size) (omega (arith, ends));
-      fits = (omega arith, c.requires.fits.below);
-    }
-
-pub shape_of-words : goal.shape_of-words
-shape_of-words c =
-    let size : length c.put_nodes-middle.new.words ≡ length c.args.words.now = c.put_nodes-middle.ensures.put.size ∙ head_length c.args.words.now c.args.side.version c.index_word.result in
-    c.put_servers.ensures.put.size ∙ length-set c.put_nodes-middle.new.words c.put_nodes-middle.result c.index_word-2.result ∙ size
+pub put_servers-requires-clause-may_put : goal.put_servers-requires-clause-may_put
+put_servers-requires-clause-may_put c =
+    let middle = middle_at (goal.at.put_servers-requires-clause-may_put c).After-put_nodes-middle in
+    may_servers c.args.table.now c.args.side c.requires.fits c.args.words.now c.requires.space
+    (length-set c.put_nodes-middle.new.words c.put_nodes-middle.result c.args.side.servers ∙ middle.1) (omega (arith, middle.0))
 
 pub returns : goal.returns
 returns c =
-    let ends : c.put_nodes-middle.result ≡ 2 + (c.args.side.bottom - c.args.side.top) = middle_ends c.args.table.now c.args.side c.requires.fits c.args.words.now c.requires.space _ _ c.put_nodes-middle.ensures.put in
-    let size : length c.put_nodes-middle.new.words ≡ length c.args.words.now = c.put_nodes-middle.ensures.put.size ∙ head_length c.args.words.now c.args.side.version c.index_word.result in
     record {
       put =
           side_put c.args.table.now c.args.side c.requires.fits c.args.words.now c.requires.space c.put_nodes-middle.new.words
-          c.node_width-width.ensures.is.0 c.index_word.ensures.result c.index_word-2.ensures.result
-          (omega (arith, ends, size, c.requires.space)) c.put_nodes-middle.ensures.put c.put_servers.ensures.put;
+          c.node_width-width.ensures.is.0 refl refl (room_left (goal.at.returns c).After-put_nodes-middle) c.put_nodes-middle.ensures.put c.put_servers.ensures.put;
     }

@@ -7,14 +7,13 @@ use lib.ListN.{length, take}
 use lib.Seq.{sets, length-sets, take_all}
 use Rattle.words.specs.Bytes.{bytes_of}
 use Rattle.figures.proofs.Stores.{take-sets}
-use Rattle.calls.specs.Call.{answered}
-use Rattle.calls.proofs.Calls.{answer-told, call_short, call_done}
+use Rattle.calls.specs.Call.{answered, told_numbers}
+use Rattle.calls.proofs.Calls.{call_short, call_done}
 use Rattle.calls.proofs.Fronts.{bytes_after}
 use Rattle.outcomes.specs.Outcome.{accepted, refused, written, after}
-use Rattle.deals.specs.Plan.{Plan, PlanOutcome, output, count, entries, Lists, plan, answer_of, plan_number, plan_figure}
+use Rattle.deals.specs.Plan.{Plan, PlanOutcome, output, count, entries, Lists, plan, answer_of, plan_number, plan_figure, plan_refusal_number, plan_refusal_place}
 use Rattle.deals.specs.declared.Lengths.{Lengths}
-use Rattle.deals.specs.declared.Planned.{Planned}
-use Rattle.deals.specs.declared.Planned.TheVariants as planned
+use Rattle.std.specs.Prelude.{Result, Ok, Err}
 use Rattle.deals.specs.declared.PlanRefusal.{PlanRefusal}
 use Rattle.deals.specs.declared.PlanList.{PlanList}
 use Rattle.deals.proofs.Lent.{plan-written}
@@ -22,10 +21,11 @@ use Rattle.rooms.specs.Table.{Room, room_cords}
 use Rattle.layout.specs.declared.room.Counts.{Counts}
 use Rattle.layout.proofs.Loads.{servers-count, cords-count}
 use Rattle.plan_rooms.specs.Planning.{PlanLeft}
-use Rattle.deals.proofs.Plans.{count_none, output-length}
+use Rattle.deals.proofs.Plans.{output-length}
 use Rattle.plans.proofs.PlanCall.{Admitted}
-use Rattle.plan_bytes.specs.Call.{PlannedCall}
-use Rattle.plan_bytes.specs.Figures.{Front, FiguresLeft}
+use Rattle.plan_bytes.specs.Call.{numbers_of, PlannedCall}
+use Rattle.plan_bytes.specs.Figures.{Front, freed_of, FiguresLeft}
+use Rattle.plan_bytes.specs.declared.PlannedFigures.{PlannedFigures}
 
 -- ---- A plan in lists of words
 
@@ -43,24 +43,19 @@ module _ {table demands : List ℕ} {lengths : Lengths} {counts : Counts} (a : A
 
   pub figures_accepted : {freed : ℕ} (lent lent' : Lists) → PlanLeft room demands freed lent lent'
       → ((list : PlanList) → count counts.cords counts.servers list ≤ length (lent list))
-      → FiguresLeft (plan table demands lengths) (record { answer = planned.Accepted freed; cords = counts.cords; servers = counts.servers }) lent'
+      → FiguresLeft (plan table demands lengths) (Ok (record { freed = freed; cords = counts.cords; servers = counts.servers })) lent'
   figures_accepted lent lent' left long =
       let counted : (list : PlanList) → count counts.cords counts.servers list ≡ count (room_cords room) (length room.servers) list =
       λ list. ap₂ (λ (cords servers : ℕ). count cords servers list) (cords-count a.room_found) (servers-count a.room_found) in
       rw a.is
       (record {
-        answer_is = ap planned.Accepted left.freed_is;
+        answer_is = ap Ok left.freed_is;
         lists_are = λ list. front_stored (lent list) _ (left.lists_are list) (counted list ∙ sym (output-length room demands list)) (long list);
       })
 
--- Refused, nothing is written.
-pub figures_refused : (outcome : PlanOutcome) {q : PlanRefusal} → outcome ≡ refused q → (lent : Lists)
-    → FiguresLeft outcome (record { answer = planned.Refused q; cords = 0; servers = 0 }) lent
-figures_refused outcome e lent =
-    rw e (record { answer_is = refl; lists_are = λ list. none (lent list) (count_none list) })
-  where
-    none : (list : List ℕ) {n : ℕ} → n ≡ 0 → Front n list []
-    none list is = record { few = omega (arith, is); is = rw is refl }
+-- Refused, nothing is said of the lists.
+pub figures_refused : (outcome : PlanOutcome) {q : PlanRefusal} → outcome ≡ refused q → (words : Lists) → FiguresLeft outcome (Err q) words
+figures_refused outcome e words = record { answer_is = sym (ap answer_of e); lists_are = tt }
 
 -- ---- Its lists in bytes
 
@@ -88,11 +83,25 @@ list_stored output o bytes f fits b =
 pub plan_short : (outcome : PlanOutcome) (lent : Lists) (answer : List ℕ) → length answer < 16 → PlannedCall outcome lent answer 0 lent answer
 plan_short outcome lent answer h = call_short _ answer _ (omega arith) (record { lists-after = λ list. refl })
 
+-- Refused, an outcome leaves every list as it was.
+pub nothing_stored : (outcome : PlanOutcome) (lent : Lists) (q : PlanRefusal) → Err q ≡ answer_of outcome
+    → (list : PlanList) → lent list ≡ after (λ p. bytes_of (output list p)) outcome (lent list)
+nothing_stored (accepted p) lent q e list = absurd (cc)
+nothing_stored (refused p) lent q e list = refl
+
 -- Where it is long enough, it has the answer, and the lists are those after the outcome.
-pub plan_done : (outcome : PlanOutcome) (lent lent' : Lists) (answer : List ℕ) {planned : Planned} {answer' : List ℕ} {number figure : ℕ}
-    → 16 ≤ length answer → planned ≡ answer_of outcome
-    → ((list : PlanList) → lent' list ≡ after (λ p. bytes_of (output list p)) outcome (lent list))
-    → number ≡ plan_number planned → figure ≡ plan_figure planned → answer' ≡ answered 2 (number ∷ figure ∷ []) answer
-    → PlannedCall outcome lent answer 1 lent' answer'
-plan_done outcome lent lent' answer long is stored k v a =
-    call_done _ answer _ (omega arith) (record { lists-after = stored }) (answer-told answer (k ∙ ap plan_number is) (v ∙ ap plan_figure is) a)
+module _ (outcome : PlanOutcome) (lent : Lists) (answer : List ℕ) (long : 16 ≤ length answer) where
+  numbers_told : (planned : Result PlannedFigures PlanRefusal) → freed_of planned ≡ answer_of outcome
+      → told_numbers (λ (p : PlannedFigures). p.freed ∷ []) plan_refusal_number plan_refusal_place planned ≡ numbers_of outcome
+  numbers_told planned is = same planned ∙ ap (λ (r : Result ℕ PlanRefusal). plan_number r ∷ plan_figure r ∷ []) is
+    where
+      same : (p : Result PlannedFigures PlanRefusal) → told_numbers (λ (p : PlannedFigures). p.freed ∷ []) plan_refusal_number plan_refusal_place p
+          ≡ plan_number (freed_of p) ∷ plan_figure (freed_of p) ∷ []
+      same (Ok figures) = refl
+      same (Err refusal) = refl
+
+  pub plan_done : (planned : Result PlannedFigures PlanRefusal) {lent' : Lists} {answer' : List ℕ} → freed_of planned ≡ answer_of outcome
+      → ((list : PlanList) → lent' list ≡ after (λ p. bytes_of (output list p)) outcome (lent list))
+      → answer' ≡ answered 2 (told_numbers (λ (p : PlannedFigures). p.freed ∷ []) plan_refusal_number plan_refusal_place planned) answer
+      → PlannedCall outcome lent answer 1 lent' answer'
+  plan_done planned is stored a = call_done _ answer _ long (record { lists-after = stored }) (a ∙ ap (λ (l : List ℕ). answered 2 l answer) (numbers_told planned is))

@@ -1,18 +1,18 @@
 // Plan called from C: bytes to words, the operation, words and the answer to bytes.
 #![tactic(auto)]
 
-ghost use Rattle.std.specs.Prelude.{◌≤◌, length};
+ghost use Rattle.std.specs.Prelude.{[], ◌∷◌, ◌≤◌, length, IfOk};
 ghost use Rattle.words.specs.Bytes.{words_of};
 ghost use Rattle.rooms.specs.Table.{most_servers, most_cords};
 ghost use Rattle.deals.specs.Plan.{lists, plan};
 ghost use Rattle.plan_bytes.specs.Call.{PlanCall};
 ghost use Rattle.plan_bytes.specs.Figures.{FiguresLeft};
 
-use calls::ANSWER_BYTES;
-use deals::{Lengths, Planned};
+use calls::{ANSWER_BYTES, Figures};
+use deals::{Lengths, PlanRefusal};
 use layout::room::load_bytes;
 use plan_rooms::plan_loaded;
-use plans::{Admission, admit};
+use plans::admit;
 use rooms::{MOST_CORDS, MOST_SERVERS};
 
 // Plan: for each cord a grant, its headroom and the number of the node that holds it (0 for none), and for each server a cap, at the fronts
@@ -43,7 +43,7 @@ pub fn plan_bytes(
         headroom: headroom.len() / 4,
         held: held.len() / 4,
     };
-    let figures = plan_figures(
+    let planned = plan_figures(
         table,
         demands,
         lengths,
@@ -52,23 +52,32 @@ pub fn plan_bytes(
         &mut lent,
         &mut holders,
     );
-    let planned = figures.answer;
-    let cords = figures.cords;
-    let servers = figures.servers;
-    words::store(&granted[..cords], grants);
-    words::store(&capped[..servers], caps);
-    words::store(&lent[..cords], headroom);
-    words::store(&holders[..cords], held);
-    calls::store_answer(planned.number(), planned.figure(), answer);
+    if let Ok(figures) = planned {
+        let cords = figures.cords;
+        let servers = figures.servers;
+        words::store(&granted[..cords], grants);
+        words::store(&capped[..servers], caps);
+        words::store(&lent[..cords], headroom);
+        words::store(&holders[..cords], held);
+    }
+    calls::tell(planned, answer);
     1
 }
 
-// What a plan in lists of words comes to: its answer, and how many cords and servers these have figures of, none where refused.
+// What a plan in lists of words comes to: its freed watts, and how many cords and servers the lists have figures of.
 #[derive(Clone, Copy)]
 struct PlannedFigures {
-    answer: Planned,
+    freed: u64,
     cords: usize,
     servers: usize,
+}
+
+impl Figures<1> for PlannedFigures {
+    ghost figures_of = { λ planned. planned.freed ∷ [] };
+
+    fn figures(self) -> [u64; 1] {
+        [self.freed]
+    }
 }
 
 // Plan of a table and demands in bytes, at the fronts of lists of words that take any plan, for lists of given lengths. No word of the
@@ -81,9 +90,10 @@ fn plan_figures(
     capped: &mut [u32],
     lent: &mut [u32],
     holders: &mut [u32],
-) -> PlannedFigures
+) -> Result<PlannedFigures, PlanRefusal>
     requires cords { (most_cords ≤ length granted.old) × (most_cords ≤ length lent.old) × (most_cords ≤ length holders.old) }
     requires servers { most_servers ≤ length capped.old }
+    ensures few { IfOk result (λ figures. (figures.cords ≤ most_cords) × (figures.servers ≤ most_servers)) }
     ensures planned { FiguresLeft (plan (words_of table.now) (words_of demands.now) lengths) result
         (lists granted.new capped.new lent.new holders.new) }
 {
@@ -103,23 +113,13 @@ fn plan_figures(
         lent,
         capped,
     );
-    let admission = admit(loaded, lengths);
-    match admission {
-        Admission::Good(counts) => {
-            let freed = plan_loaded(
-                counts, &parents, &cords, &mut lows, &mut wants, &mut left, granted, capped, lent,
-                holders,
-            );
-            PlannedFigures {
-                answer: Planned::Accepted(freed),
-                cords: counts.cords,
-                servers: counts.servers,
-            }
-        }
-        Admission::Refused(refusal) => PlannedFigures {
-            answer: Planned::Refused(refusal),
-            cords: 0,
-            servers: 0,
-        },
-    }
+    let counts = admit(loaded, lengths)?;
+    let freed = plan_loaded(
+        counts, &parents, &cords, &mut lows, &mut wants, &mut left, granted, capped, lent, holders,
+    );
+    Ok(PlannedFigures {
+        freed,
+        cords: counts.cords,
+        servers: counts.servers,
+    })
 }

@@ -17,22 +17,6 @@ carried_le scale share load grant h q =
 pub carried_most : (scale share load : ℕ) → 0 < scale → share ≤ scale → carried scale share load ≤ load
 carried_most scale share load h q = carried_le scale share load load h (mul-le-mul_right load q)
 
--- ---- In the code's terms: x, y and z are the share, the load and the scale, in 64 bits
-
--- A share of a load is far below 2^64.
-pub product_most : {share load scale x y : ℕ} → x ≡ share → y ≡ load → IsScale scale × (share ≤ scale) × (load ≤ most_watts) → x * y ≤ most_scale * most_watts
-product_most {share = share} ex ey ok =
-    let most : share ≤ most_scale = omega (arith, ok.0, ok.1) in
-    rw (ex, ey) (mul-le-mul most ok.2)
-
-pub quotient_most : {share load scale x y z : ℕ} → x ≡ share → y ≡ load → z ≡ scale → IsScale scale × (share ≤ scale) × (load ≤ most_watts)
-    → (k : ℕ) → k ≡ scale → (x * y + (z - 1)) / k ≤ most_watts
-quotient_most {share} {load} {scale} ex ey ez ok k e = rw (ex, ey, ez, e) (omega (arith, carried_most scale share load ok.0.0 ok.1, ok.2))
-
--- A quotient by the scale, by whatever name.
-pub carried_is : {share load scale x y z k r : ℕ} → x ≡ share → y ≡ load → z ≡ scale → k ≡ scale → r ≡ (x * y + (z - 1)) / k → r ≡ carried scale share load
-carried_is ex ey ez ek e = rw (← ex, ← ey, ← ez) (rw (ek ∙ sym ez) at e)
-
 -- ---- A node's limit
 
 -- A node may carry no more than its rating.
@@ -40,8 +24,3 @@ pub limit_le : (n : Node) → n.percent ≤ 100 → limit n ≤ n.rating
 limit_le n h =
     let a : n.rating * n.percent ≤ n.rating * 100 = mul-le-mul_left n.rating h in
     omega arith
-
-pub limit_most : {percent x y : ℕ} → y ≡ percent → x < 4294967296 → percent ≤ 100 → (x * y < 4294967296 * 100) × (x * y / 100 < 4294967296)
-limit_most {x = x} {y = y} ey h k =
-    let a : x * y ≤ x * 100 = mul-le-mul_left x (omega arith) in
-    (omega arith, omega arith)

@@ -50,9 +50,6 @@ module _ (table : List ℕ) where
     words : OfRoom table (λ r. length table ≡ i + 4 * servers + 2 * room_cords r)
     words r end is = omega (arith, length_is table r end is, index_is r end is, fit r end is)
 
-    pub cords_none : length table < i + 4 * servers → CordsFit table 0
-    cords_none h r end is = omega (arith, words r end is)
-
     pub cords-told : CordsFit table ((length table - (i + 4 * servers)) / 2)
     cords-told r end is = omega (arith, words r end is)
 

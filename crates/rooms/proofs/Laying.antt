@@ -137,16 +137,9 @@ module _ {table : List ℕ} {v start first c : ℕ} {servers cords : List (List 
     pub few-cords : first + at table (start + 3) ≤ most_cords
     few-cords = omega (arith, laying_server.cords-within, (begun laying.read).cords_most)
 
-pub server_begin : {table : List ℕ} {v start first count : ℕ} {servers cords : List (List ℕ)}
-    → Laying table v start first first servers cords → v < length servers → count ≡ at table (start + 3)
-    → LayingServer table v start first count first (start + 4) servers cords
-server_begin laying more e =
-    record { laying = laying; more = more; counted = e; from = omega arith; to = omega arith; next = omega arith }
-
 -- What code relies on at a cord.
 pub record CordFits (table : List ℕ) (v c word : ℕ) (cords : List (List ℕ)) : Type 0 where
   pub there : word + 1 < length table
-  pub cord_few : c < most_cords
   pub in_cords : c < length cords
 
 walk_to : {table : List ℕ} {r : Room} {v i j c d : ℕ} → i ≡ j → c ≡ d → Walk table r v j d → Walk table r v i c
@@ -186,7 +179,6 @@ module _ {table : List ℕ} {v start first count c word : ℕ} {servers cords : 
     cord_fits =
         record {
           there = omega (arith, cord-here.there, at-share);
-          cord_few = omega (arith, within, (begun laying.read).cords_most);
           in_cords = omega (arith, within, corded laying);
         }
 

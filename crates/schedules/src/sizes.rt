@@ -9,9 +9,15 @@ const SIZES: [u32; SIZE_COUNT] = [
     350, 400, 450, 500, 600, 700, 800, 1000, 1200, 1600, 2000, 2500, 3000, 4000, 5000, 6000,
 ];
 
-// Whether amperes are a size.
+// Whether amperes are a size. The sizes rise, so the first that is not below the amperes decides.
+// By hand: the chips' build takes no `contains`, whose search is an attribute's (chips/portable.awk).
 pub fn is_size(amperes: u32) -> bool
     ensures result { result ≡ is_size amperes }
 {
-    SIZES.contains(&amperes)
+    for size in SIZES {
+        if amperes <= size {
+            return amperes == size;
+        }
+    }
+    false
 }

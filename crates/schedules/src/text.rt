@@ -11,11 +11,12 @@ const MOST_DIGITS: usize = 4;
 const LONE_DIGIT: u8 = b'0';
 
 // The byte at a place; 0 past the end of the text.
+// By hand: the chips' build takes no `get`, whose answer holds a pointer (chips/portable.awk).
 fn byte_at(text: &[u8], at: usize) -> u8
     ensures result { result ≡ byte_at text.now at }
     ensures bounded { 0 < result → at < length text.now }
 {
-    text.get(at).copied().unwrap_or(0)
+    if at < text.len() { text[at] } else { 0 }
 }
 
 // The number that starts at a place, and the place after it; nothing where it is not of the form.

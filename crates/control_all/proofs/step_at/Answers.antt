@@ -7,5 +7,5 @@ pub returns : goal.returns
 returns c =
     record {
       result =
-          rw (c.step_by.ensures.result, c.tally_at.ensures.result, c.controller_at-controller.ensures.result) (stepped_by_all _ _ (omega arith));
+          rw (c.step_by.ensures.result, c.tally.ensures.result, c.controller_at-controller.ensures.result) (stepped_by_all _ _ (omega arith));
     }

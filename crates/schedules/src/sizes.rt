@@ -10,7 +10,7 @@ const SIZES: [u32; SIZE_COUNT] = [
 ];
 
 // Whether amperes are a size. The sizes rise, so the first that is not below the amperes decides.
-// By hand: the chips' build takes no `contains`, whose search is an attribute's (chips/portable.awk).
+// By hand: `contains` is compiled with an attribute that the chips' build does not know (chips/portable.awk).
 pub fn is_size(amperes: u32) -> bool
     ensures result { result ≡ is_size amperes }
 {

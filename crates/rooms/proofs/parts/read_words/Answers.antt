@@ -10,9 +10,6 @@ returns-in_err-count c =
       words = c.decode_sheet.ensures.words;
     }
 
-pub slice_bounds-answer_for-end-2 : goal.slice_bounds-answer_for-end-2
-slice_bounds-answer_for-end-2 c = front_length _ _ c.min-front.ensures
-
 pub returns : goal.returns
 returns c =
     record {

@@ -36,7 +36,7 @@ pub enum Unwritten {
 }
 
 // The first value that has no form: 2^28.
-const FORM_LIMIT: u32 = 268435456;
+const FORM_LIMIT: u32 = 1 << 28;
 
 // The number that starts at a place of the sheet, byte by byte, and the place after it.
 fn decode_bytes(sheet: &[u8], at: usize) -> Result<(u32, usize), Fault>

@@ -1,6 +1,6 @@
 -- `read_words` meets its contract: the words that the list takes are at its front, and are answered for.
 use Rattle.rooms.proofs.Steps.{passed_on}
-use Rattle.rooms.proofs.Outcomes.{whole_so, front_length, first_bad_number, first_answered}
+use Rattle.rooms.proofs.Outcomes.{whole_so, first_bad_number, first_answered}
 use Rattle.rooms.proofs.parts.read_words.Goals as goal
 
 pub returns-in_err-count : goal.returns-in_err-count

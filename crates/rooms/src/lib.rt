@@ -21,7 +21,7 @@ pub mod parts;
 mod table;
 
 // Why an input is turned back, and where: a byte or a word by its place, a node by its number, or a length.
-#[derive(Clone, Copy, Debug, PartialEq, Eq)]
+#[derive(Clone, Copy, PartialEq, Eq)]
 pub enum SheetRefusal {
     BadNumber(Fault, usize),
     WordMissing(usize),

@@ -14,7 +14,7 @@ use figures::first_not_below;
 pub mod parts;
 
 // Why bytes are no number: four bytes that all say another follows; a last byte of 0 after others; the bytes end inside.
-#[derive(Clone, Copy, Debug, PartialEq, Eq)]
+#[derive(Clone, Copy, PartialEq, Eq)]
 pub enum Fault {
     TooLong,
     NotShortest,
@@ -22,21 +22,21 @@ pub enum Fault {
 }
 
 // A bad number: its fault, and the place where it starts.
-#[derive(Clone, Copy, Debug, PartialEq, Eq)]
+#[derive(Clone, Copy, PartialEq, Eq)]
 pub struct BadNumber {
     pub fault: Fault,
     pub place: usize,
 }
 
 // Why words are not written: the index of the first word that has no form, or the count of bytes needed.
-#[derive(Clone, Copy, Debug, PartialEq, Eq)]
+#[derive(Clone, Copy, PartialEq, Eq)]
 pub enum Unwritten {
     TooLarge(usize),
     TooShort(usize),
 }
 
 // The first value that has no form: 2^28.
-const FORM_LIMIT: u32 = 268435456;
+const FORM_LIMIT: u32 = 1 << 28;
 
 // The number that starts at a place of the sheet, byte by byte, and the place after it.
 fn decode_bytes(sheet: &[u8], at: usize) -> Result<(u32, usize), Fault>

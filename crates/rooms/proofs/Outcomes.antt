@@ -68,10 +68,6 @@ accepted_is step output entries e =
 
 -- ---- Read
 
--- The length of a front that is no longer than its list.
-pub front_length : (count : ℕ) (list : List ℕ) {front : ℕ} → front ≡ min count (length list) → front ≡ length (take front list)
-front_length count list {front = front} e = sym (length-take-le front list (omega arith))
-
 -- A list that takes what it can of some words has it at its front.
 module _ (list words : List ℕ) {front : ℕ} (e : front ≡ min (length words) (length list)) where
   pub front-sets : take front (sets list 0 words) ≡ take (length list) words

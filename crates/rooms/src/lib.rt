@@ -21,7 +21,7 @@ pub mod parts;
 mod table;
 
 // Why an input is turned back, and where: a byte or a word by its place, a node by its number, or a length.
-#[derive(Clone, Copy, Debug, PartialEq, Eq)]
+#[derive(Clone, Copy, PartialEq, Eq)]
 pub enum SheetRefusal {
     BadNumber(Fault, usize),
     WordMissing(usize),
@@ -145,26 +145,17 @@ fn answer_for(table: &[u32], space: usize) -> Result<usize, SheetRefusal>
     Ok(count)
 }
 
-// Read by way of a list of its own, which takes the words until all is checked.
-fn read_by(sheet: &[u8], words: &mut [u32], table: &mut [u32]) -> Result<usize, SheetRefusal>
-    requires space { suc most_words ≤ length words.old }
-    ensures result { result ≡ answer_of (reading sheet.now (length table.old)) }
-    ensures table { table.new ≡ after (λ words. words) (reading sheet.now (length table.old))
-        table.old }
-{
-    let count = parts::read_words(sheet, words, table.len())?;
-    figures::copy(&words[..count], table);
-    Ok(count)
-}
-
 // Read: the words of a sheet, at the front of the table. Refused, it leaves the table unchanged.
 pub fn read(sheet: &[u8], table: &mut [u32]) -> Result<usize, SheetRefusal>
     ensures result { result ≡ answer_of (reading sheet.now (length table.old)) }
     ensures table { table.new ≡ after (λ words. words) (reading sheet.now (length table.old))
         table.old }
 {
-    let mut words = [0u32; DECIDING_WORDS];
-    read_by(sheet, &mut words, table)
+    // So many words decide, whatever follows them.
+    let mut words = [0; DECIDING_WORDS];
+    let count = parts::read_words(sheet, &mut words, table.len())?;
+    table[..count].copy_from_slice(&words[..count]);
+    Ok(count)
 }
 
 // Write: the words of a table as numbers, at the front of the sheet. Refused, it leaves the sheet unchanged.

@@ -14,9 +14,6 @@ use Rattle.rooms.proofs.lists.lay_out_nodes.Goals.{After-has_percents-percents}
 nodes : (c : After-has_percents-percents) → NodesRead c.has_percents-percents.result c.args.table.now (length c.args.parents.now)
 nodes c = nodes_there c.args.table.now c.word.ensures.result c.has_percents-percents.ensures.result c.requires.sizes.0 c.requires.good
 
-pub loop-m-init : goal.loop-m-init
-loop-m-init c = (filled_none _ _, filled_none _ _)
-
 pub node_index-i-requires : goal.node_index-i-requires
 node_index-i-requires c = record { place = omega (arith, (nodes (goal.at.node_index-i-requires c).After-has_percents-percents).few) }
 

@@ -1,6 +1,6 @@
 -- `read_words` meets its contract: the words that the list takes are at its front, and are answered for.
 use Rattle.rooms.proofs.Steps.{passed_on}
-use Rattle.rooms.proofs.Outcomes.{whole_so, front_length, first_bad_number, first_answered}
+use Rattle.rooms.proofs.Outcomes.{whole_so, first_bad_number, first_answered}
 use Rattle.rooms.proofs.parts.read_words.Goals as goal
 
 pub returns-in_err-count : goal.returns-in_err-count
@@ -9,9 +9,6 @@ returns-in_err-count c =
       result = passed_on c.from_residual.ensures.1 (first_bad_number c.args.sheet.now c.args.words.now c.args.space c.in_err-count.ensures.result);
       words = c.decode_sheet.ensures.words;
     }
-
-pub slice_bounds-answer_for-end-2 : goal.slice_bounds-answer_for-end-2
-slice_bounds-answer_for-end-2 c = front_length _ _ c.min-front.ensures
 
 pub returns : goal.returns
 returns c =

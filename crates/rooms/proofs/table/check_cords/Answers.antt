@@ -4,11 +4,6 @@ use Rattle.rooms.proofs.Steps.{passed_on, row_start, row_end, row_stop, row_turn
 use Rattle.rooms.proofs.CreditTurns.{stopped, crediting_start, cords-end, next_cord}
 use Rattle.rooms.proofs.table.check_cords.Goals as goal
 
-pub loop-init : goal.loop-init
-loop-init c =
-    let all : c.args.count - 0 ≡ c.args.count = omega arith in
-    record { few = omega arith; row = rw all (row_start _ _ _ _ _ _ _); credits = rw all (crediting_start _ _ _ 0 _) }
-
 pub returns-in_err-share : goal.returns-in_err-share
 returns-in_err-share c =
     let both = stopped _ _ (row_stop _ _ _ _ _ _ _ (omega arith) c.loop.invariant.row c.in_err-share.ensures.result) in

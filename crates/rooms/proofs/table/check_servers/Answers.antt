@@ -4,22 +4,6 @@ use Rattle.rooms.proofs.Steps.{passed_on, row_start, row_end, row_stop, row_turn
 use Rattle.rooms.proofs.CreditTurns.{stopped, crediting_start, servers-end, servers_turn}
 use Rattle.rooms.proofs.table.check_servers.Goals as goal
 
-pub loop-init : goal.loop-init
-loop-init c =
-    let all : c.args.count - 0 ≡ c.args.count = omega arith in
-    record { few = omega arith; row = rw all (row_start _ _ _ _ _ _ _); credits = rw all (crediting_start _ _ _ 0 _) }
-
-pub check_server-requires : goal.check_server-requires
-check_server-requires c =
-    record {
-      in_range = (
-        c.requires.in_range.0,
-        c.loop.invariant.few,
-        omega (arith, c.loop.invariant.credits.length_is, c.requires.in_range.1),
-        omega (arith, c.loop.invariant.credits.sum_is, c.requires.in_range.2, c.loop-test.true),
-      );
-    }
-
 pub returns-in_err-cords : goal.returns-in_err-cords
 returns-in_err-cords c =
     let both = stopped _ _ (row_stop _ _ _ _ _ _ _ (omega arith) c.loop.invariant.row c.in_err-cords.ensures.result) in

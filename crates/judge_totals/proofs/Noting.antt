@@ -18,11 +18,11 @@ use Rattle.figures.proofs.Filled.{zeros-at}
 use Rattle.figures.proofs.Sums.{sum_suc, sum_none, sum_cong, up}
 use Rattle.figures.proofs.Lists.{sum_most}
 use Rattle.rooms.specs.Table.{most_nodes, most_cords, most_watts, highest_rank}
-use Rattle.rooms.specs.Limits.{first_node}
+use Rattle.rooms.specs.Limits.{first_node, found_node}
 use Rattle.rooms.specs.Credits.{tree_sum, exceeds}
 use Rattle.figures.proofs.Credits.{on_most, credited-at}
 use Rattle.rooms.proofs.Credits.{tree_sum_step}
-use Rattle.rooms.proofs.Gather.{Holds, holds_whole, Gathered, gathered_start, gathered_turn}
+use Rattle.rooms.proofs.Gather.{Holds, holds_whole, Gathered, gathered_start, gathered_turn, gathered_end}
 use Rattle.rooms.proofs.Search.{NoneIn, first_node_cong}
 use Rattle.deals.specs.Ranks.{NodeLists}
 use Rattle.judge_totals.specs.Totals.{place_of, GrantedCords, over_low, on_node, from_level, Noted, AllNoted, Unnoted, CordsNoted, noted_on, held_back, IsMost, NodesNoted, over_from, Compared}
@@ -152,7 +152,7 @@ partly parents own passed done n i = own i + up done n (λ m. on (eqb (at parent
 pub record NodeTurns (parents spare : List ℕ) (notes₀ : Notes) (over : Option ℕ) (n : ℕ) (notes : Notes) : Type 0 where
   pub number : ℕ
   pub over_is : over ≡ place_of number
-  pub gathered : Gathered (at parents) (at spare) (length parents) notes₀.given number n notes.given
+  pub gathered : Gathered (at parents) (at spare) (length parents) notes₀.given (found_node number) n notes.given
   pub size : Sized notes
   pub turns : ℕ
   pub all : n + turns ≡ length parents
@@ -177,7 +177,22 @@ nodes_start parents spare {notes} size = record {
   done = λ has own most all is z i a b. absurd (omega arith);
 }
 
+-- The node that is found, after one more.
+node_found : (t : Bool) (m k : ℕ) → cond t (Some (suc m)) (found_node k) ≡ found_node (cond t (suc m) k)
+node_found true m k = refl
+node_found false m k = refl
+
+-- Numbers that tell the same node tell the same place.
+same_place : (m k : ℕ) → found_node m ≡ found_node k → place_of m ≡ place_of k
+same_place zero zero e = refl
+same_place zero (suc k) e = absurd (cc)
+same_place (suc m) zero e = absurd (cc)
+same_place (suc m) (suc k) e = let q : suc m ≡ suc k = cc in ap (λ (x : ℕ). place_of x) q
+
 module _ {parents spare : List ℕ} {notes₀ : Notes} {over : Option ℕ} {n : ℕ} {notes : Notes} (inv : NodeTurns parents spare notes₀ over n notes) (z : n ≤ 0) where
+  pub over-end : over ≡ place_of (first_node (length parents) 0 (exceeds (at parents) (at spare) (length parents) notes₀.given))
+  over-end = inv.over_is ∙ same_place inv.number _ (gathered_end inv.gathered z)
+
   pub nodes-end : NodesNoted parents spare over notes₀ notes
   nodes-end has own most all is none i l = inv.done has own most all is (no_number inv.number (sym inv.over_is ∙ none)) i (omega arith) l
     where
@@ -268,7 +283,7 @@ module _ {parents spare : List ℕ} {notes₀ : Notes} (nodes : NodeLists parent
         record {
           number = number';
           over_is = ap (cond (ltb limit has_here) (Some m)) inv.over_is ∙ sym (place_found (ltb limit has_here) m inv.number);
-          gathered = rw e at (gathered_turn nodes.rises inv.gathered (omega arith) few refl refl refl refl refl);
+          gathered = rw (← node_found (ltb limit has_here) m inv.number) (rw e at (gathered_turn nodes.rises inv.gathered (omega arith) few refl refl refl refl refl));
           size = noted_sized (at parents m) has_here low high held held_size;
           turns = suc inv.turns;
           all = omega (arith, inv.all);

@@ -1,5 +1,5 @@
 -- `note_nodes` meets its contract: when a node has its turn, all nodes beneath it had theirs, so that its notes are whole.
-use mathlib.Core.Path.{◌≡◌, ap, ◌∙◌}
+use mathlib.Core.Path.{◌≡◌}
 use mathlib.Core.Bool.{cond}
 use Prim.Native.Nat.{◌-◌, ◌<◌}
 use native.Mathlib.Omega.{arith}
@@ -8,11 +8,10 @@ use lib.ListN.{length}
 use borrow.Author.Tests.{lt-ltb, le-ltb}
 use Rattle.std.specs.Prelude.{Some}
 use Rattle.figures.specs.Figures.{at}
-use Rattle.rooms.proofs.Gather.{gathered_most, gathered_end}
-use Rattle.judge_totals.specs.Totals.{place_of}
+use Rattle.rooms.proofs.Gather.{gathered_most}
 use Rattle.judge_totals.proofs.Searching.{place_within}
 use Rattle.judge_totals.proofs.Noted.{Sized}
-use Rattle.judge_totals.proofs.Noting.{nodes_start, nodes_next, nodes-end}
+use Rattle.judge_totals.proofs.Noting.{nodes_start, nodes_next, over-end, nodes-end}
 use Rattle.judge_totals.proofs.note_nodes.Goals as goal
 use Rattle.judge_totals.proofs.note_nodes.Goals.{then-limit-has, else-limit-has}
 
@@ -38,5 +37,8 @@ loop-n-preserved c =
 pub returns-clause-noted : goal.returns-clause-noted
 returns-clause-noted c = nodes-end c.loop-n.invariant c.loop-n-test.false
 
+pub returns-clause-result : goal.returns-clause-result
+returns-clause-result c = over-end c.loop-n.invariant c.loop-n-test.false
+
 pub returns-clause-within : goal.returns-clause-within
-returns-clause-within c = place_within _ _ c.loop-n.over (c.loop-n.invariant.over_is ∙ ap place_of (gathered_end c.loop-n.invariant.gathered c.loop-n-test.false))
+returns-clause-within c = place_within _ _ c.loop-n.over (over-end c.loop-n.invariant c.loop-n-test.false)

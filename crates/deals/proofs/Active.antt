@@ -13,10 +13,10 @@ use lib.Seq.{get_or-set_same, get_or-set_other, get_or-take, length-take-le}
 use borrow.Author.Count.{below_more}
 use borrow.Author.Tests.{eqb-true, eqb-false, ltb-true, ltb-false}
 use Rattle.rooms.specs.Table.{most_nodes, highest_rank}
-use Rattle.figures.specs.Figures.{at, cell}
-use Rattle.deals.specs.Levels.{from_column, to_column, active_count_column, LevelRows, Ordered, Marked, MarksAdded, NodeMarks, Listed, FullLists, LevelsListed, ActivesListed, ActiveNodes, CordsActive, LevelLists}
+use Rattle.figures.specs.Figures.{at}
+use Rattle.deals.specs.declared.levels.Level.{Level}
+use Rattle.deals.specs.Levels.{no_cords, level_at, AllLevels, Ordered, Marked, MarksAdded, NodeMarks, Listed, FullLists, LevelsListed, ActivesListed, ActiveNodes, CordsActive, LevelLists}
 use Rattle.figures.specs.Places.{Absent}
-use Rattle.figures.proofs.Cells.{stored, cell-here, cell_elsewhere, cell_others, stored_full}
 use Rattle.rooms.specs.Trees.{ParentsFirst}
 
 -- ---- Marks
@@ -236,15 +236,15 @@ module _ {parents nodes levels marks : List ℕ} (size : length marks ≡ length
 -- ---- The active nodes of all levels
 
 -- Before the turn of a level: those below it are listed; `rows₀` are the levels' rows before all turns.
-pub record Levelling (marks : List ℕ) (rows₀ : List (List ℕ)) (level : ℕ) (rows actives : List (List ℕ)) : Type 0 where
+pub record Levelling (marks : List ℕ) (rows₀ : List Level) (level : ℕ) (rows : List Level) (actives : List (List ℕ)) : Type 0 where
   pub within : level ≤ highest_rank
-  pub rows_full : LevelRows rows
+  pub rows_full : AllLevels rows
   pub full : FullLists actives
-  pub bounds : (j : ℕ) → (cell rows j from_column ≡ cell rows₀ j from_column) × (cell rows j to_column ≡ cell rows₀ j to_column)
-  pub listed : (j : ℕ) → j < level → cell rows₀ j from_column < cell rows₀ j to_column → Listed marks j (get_or actives j []) (cell rows j active_count_column)
-  pub none : (j : ℕ) → j < level → cell rows₀ j to_column ≤ cell rows₀ j from_column → cell rows j active_count_column ≡ 0
+  pub bounds : (j : ℕ) → ((level_at rows j).from ≡ (level_at rows₀ j).from) × ((level_at rows j).to ≡ (level_at rows₀ j).to)
+  pub listed : (j : ℕ) → j < level → (level_at rows₀ j).from < (level_at rows₀ j).to → Listed marks j (get_or actives j []) (level_at rows j).active_count
+  pub none : (j : ℕ) → j < level → (level_at rows₀ j).to ≤ (level_at rows₀ j).from → (level_at rows j).active_count ≡ 0
 
-pub levelling_start : {marks : List ℕ} {rows actives : List (List ℕ)} → LevelRows rows → FullLists actives → Levelling marks rows 0 rows actives
+pub levelling_start : {marks : List ℕ} {rows : List Level} {actives : List (List ℕ)} → AllLevels rows → FullLists actives → Levelling marks rows 0 rows actives
 levelling_start rows_full full = record {
   within = omega arith;
   rows_full = rows_full;
@@ -254,7 +254,7 @@ levelling_start rows_full full = record {
   none = λ j l. absurd (omega arith);
 }
 
-module _ {marks : List ℕ} {rows₀ : List (List ℕ)} {level : ℕ} {rows actives : List (List ℕ)} (inv : Levelling marks rows₀ level rows actives) where
+module _ {marks : List ℕ} {rows₀ : List Level} {level : ℕ} {rows : List Level} {actives : List (List ℕ)} (inv : Levelling marks rows₀ level rows actives) where
   pub levelling_end : highest_rank ≤ level → LevelsListed marks rows₀ actives rows
   levelling_end h = record {
     rows_full = inv.rows_full;
@@ -264,56 +264,55 @@ module _ {marks : List ℕ} {rows₀ : List (List ℕ)} {level : ℕ} {rows acti
     none = λ j l. inv.none j (omega arith);
   }
 
-  module _ (more : level < highest_rank) where
-    level_there : level < length rows
-    level_there = omega (arith, inv.rows_full.0)
+  -- A level's count is stored: the other levels are as they were, and so are its bounds.
+  module _ (more : level < highest_rank) (entry : Level) (same_from : entry.from ≡ (level_at rows level).from) (same_to : entry.to ≡ (level_at rows level).to) where
+    abbrev counted : List Level
+    counted = set rows level entry
 
-    level_width : length (get_or rows level []) ≡ 4
-    level_width = inv.rows_full.1 level more
+    counted_here : level_at counted level ≡ entry
+    counted_here = get_or-set_same rows level entry no_cords (omega (arith, inv.rows_full))
 
-    -- A level's count is stored: the counts of other levels stand, and so do all bounds.
-    module _ (v : ℕ) where
-      counted : cell (stored rows level active_count_column v) level active_count_column ≡ v
-      counted = cell-here rows level active_count_column v level_there (omega (arith, level_width))
+    counted_other : (j : ℕ) → (j ≡ level → ⊥) → level_at counted j ≡ level_at rows j
+    counted_other j d = get_or-set_other rows level j entry no_cords d
 
-      uncounted : (j : ℕ) → j < level → cell (stored rows level active_count_column v) j active_count_column ≡ cell rows j active_count_column
-      uncounted j l = cell_elsewhere rows level active_count_column v level_there j active_count_column (λ q. omega arith)
-
-      same_bounds : (j : ℕ) → (cell (stored rows level active_count_column v) j from_column ≡ cell rows₀ j from_column) × (cell (stored rows level active_count_column v) j to_column ≡ cell rows₀ j to_column)
-      same_bounds j = (
-        cell_others rows level active_count_column v level_there j from_column (λ q. absurd (omega arith)) ∙ (inv.bounds j).0,
-        cell_others rows level active_count_column v level_there j to_column (λ q. absurd (omega arith)) ∙ (inv.bounds j).1,
-      )
+    same_bounds : (j : ℕ) → ((level_at counted j).from ≡ (level_at rows₀ j).from) × ((level_at counted j).to ≡ (level_at rows₀ j).to)
+    same_bounds j = go (eqb j level) refl
+      where
+        go : (t : Bool) → eqb j level ≡ t → ((level_at counted j).from ≡ (level_at rows₀ j).from) × ((level_at counted j).to ≡ (level_at rows₀ j).to)
+        go true e = rw (eqb-true j level e, counted_here) (same_from ∙ (inv.bounds level).0, same_to ∙ (inv.bounds level).1)
+        go false e = rw (counted_other j (eqb-false j level e)) (inv.bounds j)
 
     -- A level that no cord has.
-    pub levelling_skip : cell rows level to_column ≤ cell rows level from_column → Levelling marks rows₀ (level + 1) (stored rows level active_count_column 0) actives
-    levelling_skip none = record {
+    pub levelling_skip : (level_at rows level).to ≤ (level_at rows level).from → entry.active_count ≡ 0 → Levelling marks rows₀ (level + 1) counted actives
+    levelling_skip none e = record {
       within = omega arith;
-      rows_full = stored_full rows level active_count_column 0 level_there inv.rows_full;
+      rows_full = length-set rows level entry ∙ inv.rows_full;
       full = inv.full;
-      bounds = same_bounds 0;
-      listed = below_more (λ j. cell rows₀ j from_column < cell rows₀ j to_column → Listed marks j (get_or actives j []) (cell (stored rows level active_count_column 0) j active_count_column)) level
-          (λ j l has. subst (Listed marks j (get_or actives j [])) (sym (uncounted 0 j l)) (inv.listed j l has))
+      bounds = same_bounds;
+      listed = below_more (λ j. (level_at rows₀ j).from < (level_at rows₀ j).to → Listed marks j (get_or actives j []) (level_at counted j).active_count) level
+          (λ j l has. rw (counted_other j (λ q. omega arith)) (inv.listed j l has))
           (λ has. absurd (omega (arith, inv.bounds level)));
-      none = below_more (λ j. cell rows₀ j to_column ≤ cell rows₀ j from_column → cell (stored rows level active_count_column 0) j active_count_column ≡ 0) level
-          (λ j l has. uncounted 0 j l ∙ inv.none j l has) (λ has. counted 0);
+      none = below_more (λ j. (level_at rows₀ j).to ≤ (level_at rows₀ j).from → (level_at counted j).active_count ≡ 0) level
+          (λ j l has. rw (counted_other j (λ q. omega arith)) (inv.none j l has))
+          (λ has. rw counted_here e);
     }
 
-    pub levelling_turn : cell rows level from_column < cell rows level to_column → (list : List ℕ) {v count : ℕ} → v ≡ count → length list ≡ length (get_or actives level [])
-        → Listed marks level list count → Levelling marks rows₀ (level + 1) (stored rows level active_count_column v) (set actives level list)
-    levelling_turn some_cord list {v} {count} e size listed = record {
+    pub levelling_turn : (level_at rows level).from < (level_at rows level).to → (list : List ℕ) → length list ≡ length (get_or actives level [])
+        → Listed marks level list entry.active_count → Levelling marks rows₀ (level + 1) counted (set actives level list)
+    levelling_turn some_cord list size listed = record {
       within = omega arith;
-      rows_full = stored_full rows level active_count_column v level_there inv.rows_full;
+      rows_full = length-set rows level entry ∙ inv.rows_full;
       full = (
         length-set actives level list ∙ inv.full.0,
         λ j h. set-length (eqb j level) j refl h,
       );
-      bounds = same_bounds v;
-      listed = below_more (λ j. cell rows₀ j from_column < cell rows₀ j to_column → Listed marks j (get_or (set actives level list) j []) (cell (stored rows level active_count_column v) j active_count_column)) level
-          (λ j l has. rw (get_or-set_other actives level j list [] (λ q. omega arith)) (subst (Listed marks j (get_or actives j [])) (sym (uncounted v j l)) (inv.listed j l has)))
-          (λ has. rw row (subst (Listed marks level list) (sym (counted v ∙ e)) listed));
-      none = below_more (λ j. cell rows₀ j to_column ≤ cell rows₀ j from_column → cell (stored rows level active_count_column v) j active_count_column ≡ 0) level
-          (λ j l has. uncounted v j l ∙ inv.none j l has) (λ has. absurd (omega (arith, inv.bounds level)));
+      bounds = same_bounds;
+      listed = below_more (λ j. (level_at rows₀ j).from < (level_at rows₀ j).to → Listed marks j (get_or (set actives level list) j []) (level_at counted j).active_count) level
+          (λ j l has. rw (get_or-set_other actives level j list [] (λ q. omega arith), counted_other j (λ q. omega arith)) (inv.listed j l has))
+          (λ has. rw (row, counted_here) listed);
+      none = below_more (λ j. (level_at rows₀ j).to ≤ (level_at rows₀ j).from → (level_at counted j).active_count ≡ 0) level
+          (λ j l has. rw (counted_other j (λ q. omega arith)) (inv.none j l has))
+          (λ has. absurd (omega (arith, inv.bounds level)));
     }
       where
         row : get_or (set actives level list) level [] ≡ list
@@ -324,7 +323,7 @@ module _ {marks : List ℕ} {rows₀ : List (List ℕ)} {level : ℕ} {rows acti
         set-length false j q h = rw (get_or-set_other actives level j list [] (eqb-false j level q)) (inv.full.1 j h)
 
 -- The marked nodes of a level are its active nodes.
-pub actives_listed : {parents nodes levels marks : List ℕ} {rows rows' actives : List (List ℕ)} → length marks ≡ length parents
+pub actives_listed : {parents nodes levels marks : List ℕ} {rows rows' : List Level} {actives : List (List ℕ)} → length marks ≡ length parents
     → NodeMarks parents nodes levels marks
     → ParentsFirst (length parents) (at parents)
     → ((c : ℕ) → c < length nodes → at nodes c ≤ length parents)
@@ -340,7 +339,7 @@ actives_listed size marked rises within all = record {
 }
 
 -- What both deals take of the levels.
-pub level_lists : {parents nodes levels : List ℕ} {rows rows' : List (List ℕ)} {order : List ℕ} {actives : List (List ℕ)}
+pub level_lists : {parents nodes levels : List ℕ} {rows rows' : List Level} {order : List ℕ} {actives : List (List ℕ)}
     → Ordered levels rows order → ActivesListed parents nodes levels rows actives rows' → LevelLists parents nodes levels rows' order actives
 level_lists ordered all = record {
   ordered = record {

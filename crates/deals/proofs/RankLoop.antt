@@ -14,7 +14,8 @@ use Rattle.rooms.specs.Table.{most_cords, most_watts, highest_rank}
 use Rattle.figures.specs.Figures.{at, cell}
 use Rattle.deals.specs.Metrics.{deal_from}
 use Rattle.figures.specs.Places.{Absent, Zeros}
-use Rattle.deals.specs.Levels.{ActiveNodes, CordsActive, CordsOf, LevelLists, entries, from_column, to_column, active_count_column}
+use Rattle.deals.specs.declared.levels.Level.{Level}
+use Rattle.deals.specs.Levels.{ActiveNodes, CordsActive, CordsOf, LevelLists, level_at, entries}
 use Rattle.deals.proofs.Ordering.{entries-length}
 use Rattle.deals.specs.Passes.{LevelCords, over_listed, cord_weight, CordsSummed, weight_of, FullRows, WeightsListed, MayWeigh, Weighed, MayRequest, Requested, NodesDealt, CordsDealt}
 use Rattle.deals.proofs.Active.{absent_front, front_absent, nodes_front, cords_front}
@@ -32,12 +33,12 @@ figures_length = 520
 -- ---- The loop
 
 -- At each level the rows of nodes that are not active have 0.
-pub record BlankRows (node_count : ℕ) (levels actives requests : List (List ℕ)) : Type 0 where
+pub record BlankRows (node_count : ℕ) (levels : List Level) (actives requests : List (List ℕ)) : Type 0 where
   pub full : FullRows requests
-  pub blank : (n j : ℕ) → n < node_count → j < highest_rank → Absent (get_or actives j []) (cell levels j active_count_column) n → cell requests n j ≡ 0
+  pub blank : (n j : ℕ) → n < node_count → j < highest_rank → Absent (get_or actives j []) (level_at levels j).active_count n → cell requests n j ≡ 0
 
 -- Before the ranks below `above`.
-pub record RankLoop (parents : List ℕ) (rows : List (List ℕ)) (order : List ℕ) (actives : List (List ℕ)) (nodes starts wants left₀ : List ℕ) (above : ℕ) (left cuts : List ℕ)
+pub record RankLoop (parents : List ℕ) (rows : List Level) (order : List ℕ) (actives : List (List ℕ)) (nodes starts wants left₀ : List ℕ) (above : ℕ) (left cuts : List ℕ)
     (requests : List (List ℕ)) (grants bases wholes amounts before dealt : List ℕ) : Type 0 where
   pub within : above ≤ highest_rank
   pub left_size : length left ≡ length parents
@@ -54,21 +55,21 @@ pub record RankLoop (parents : List ℕ) (rows : List (List ℕ)) (order : List 
       → State parents limits nodes levels lows starts wants given.lists above requests left cuts grants
 
 -- The row of a level that some cord has: where its cords begin and end in the order, and how many nodes are active.
-pub record LevelRow (rows : List (List ℕ)) (level from to count : ℕ) : Type 0 where
-  pub from_is : from ≡ cell rows level from_column
-  pub to_is : to ≡ cell rows level to_column
-  pub count_is : count ≡ cell rows level active_count_column
+pub record LevelRow (rows : List Level) (level from to count : ℕ) : Type 0 where
+  pub from_is : from ≡ (level_at rows level).from
+  pub to_is : to ≡ (level_at rows level).to
+  pub count_is : count ≡ (level_at rows level).active_count
   pub has_cords : from < to
 
-pub level_row : (rows : List (List ℕ)) (level : ℕ) {from to count : ℕ} → from ≡ cell rows level from_column → to ≡ cell rows level to_column
-    → count ≡ cell rows level active_count_column → from < to → LevelRow rows level from to count
+pub level_row : (rows : List Level) (level : ℕ) {from to count : ℕ} → from ≡ (level_at rows level).from → to ≡ (level_at rows level).to
+    → count ≡ (level_at rows level).active_count → from < to → LevelRow rows level from to count
 level_row rows level ef et ec some = record { from_is = ef; to_is = et; count_is = ec; has_cords = some }
 
 -- A number above 0 is one more than the number before it.
 one_more : (n : ℕ) → 0 < n → n ≡ suc (n - 1)
 one_more n h = omega arith
 
-module _ {parents : List ℕ} {rows : List (List ℕ)} {order : List ℕ} {actives : List (List ℕ)} {nodes starts wants left₀ : List ℕ}
+module _ {parents : List ℕ} {rows : List Level} {order : List ℕ} {actives : List (List ℕ)} {nodes starts wants left₀ : List ℕ}
     (some_deal : SomeDeal parents rows order actives nodes starts wants left₀) where
   abbrev lists : DealLists parents some_deal.limits nodes some_deal.levels some_deal.lows starts wants
   lists = some_deal.given.lists
@@ -105,7 +106,7 @@ module _ {parents : List ℕ} {rows : List (List ℕ)} {order : List ℕ} {activ
           subst (λ (a : ℕ). State parents limits nodes levels lows starts wants given.lists a requests left cuts grants) (one_more above more) (inv.state limits levels lows given)
 
       -- A rank that no cord has.
-      pub loop_skip : {from to : ℕ} → from ≡ cell rows level from_column → to ≡ cell rows level to_column → to ≤ from
+      pub loop_skip : {from to : ℕ} → from ≡ (level_at rows level).from → to ≡ (level_at rows level).to → to ≤ from
           → RankLoop parents rows order actives nodes starts wants left₀ level left cuts requests grants bases₀ wholes₀ amounts₀ before₀ dealt₀
       loop_skip {from} {to} ef et none = record {
         within = omega (arith, inv.within);
@@ -123,8 +124,8 @@ module _ {parents : List ℕ} {rows : List (List ℕ)} {order : List ℕ} {activ
             let by = given.by_level in
             let bounds = by.ordered.bounds level level_fits in
             let of = by.ordered.cords level level_fits in
-            let empty : length (entries order (cell rows level from_column) (cell rows level to_column)) ≡ 0
-            = entries-length order (cell rows level from_column) (cell rows level to_column) bounds.1 ∙ omega (arith, ef, et) in
+            let empty : length (entries order (level_at rows level).from (level_at rows level).to) ≡ 0
+            = entries-length order (level_at rows level).from (level_at rows level).to bounds.1 ∙ omega (arith, ef, et) in
             let no-cord : (c : ℕ) → c < length nodes → at levels c ≡ level → ⊥
             = λ c l e. let found = of.all c (omega (arith, given.lists.of_cords.levels_size)) e in absurd (omega (arith, found.below, empty)) in
             let counted = by.none level level_fits (omega (arith, ef, et)) in
@@ -133,13 +134,13 @@ module _ {parents : List ℕ} {rows : List (List ℕ)} {order : List ℕ} {activ
       }
 
       module _ {from to count : ℕ} (row : LevelRow rows level from to count) where
-        abbrev ef : from ≡ cell rows level from_column
+        abbrev ef : from ≡ (level_at rows level).from
         ef = row.from_is
 
-        abbrev et : to ≡ cell rows level to_column
+        abbrev et : to ≡ (level_at rows level).to
         et = row.to_is
 
-        abbrev ec : count ≡ cell rows level active_count_column
+        abbrev ec : count ≡ (level_at rows level).active_count
         ec = row.count_is
 
         abbrev listed : List ℕ
@@ -329,14 +330,14 @@ module _ {parents : List ℕ} {rows : List (List ℕ)} {order : List ℕ} {activ
                       sums.on-nodes.on_starts sums.on-nodes.on_weights requests₁ left₁ cuts₁ w₁ g active (length active) nodes_active (cords_active limits levels lows given) amounts before dealt nd grants₁ cd;
                 }
                   where
-                    kept : (n j : ℕ) → n < length parents → j < highest_rank → Absent (get_or actives j []) (cell rows j active_count_column) n → (t : Bool) → eqb j level ≡ t → cell requests₁ n j ≡ 0
+                    kept : (n j : ℕ) → n < length parents → j < highest_rank → Absent (get_or actives j []) (level_at rows j).active_count n → (t : Bool) → eqb j level ≡ t → cell requests₁ n j ≡ 0
                     kept n j h u absent true e =
                         let q = eqb-true j level e in
                         rw q (nodes_blank n h (absent_front (get_or actives level []) active_few (rw ec (rw q at absent))))
                     kept n j h u absent false e = requested.others n j (eqb-false j level e) ∙ inv.blank.blank n j h u absent
 
 -- Before the first rank.
-pub loop_start : {parents : List ℕ} {rows : List (List ℕ)} {order : List ℕ} {actives : List (List ℕ)} {nodes starts wants left cuts : List ℕ} {requests : List (List ℕ)}
+pub loop_start : {parents : List ℕ} {rows : List Level} {order : List ℕ} {actives : List (List ℕ)} {nodes starts wants left cuts : List ℕ} {requests : List (List ℕ)}
     {grants bases wholes amounts before dealt : List ℕ} → SomeDeal parents rows order actives nodes starts wants left → Zeros (length parents) cuts → length grants ≡ length nodes
     → BlankRows (length parents) rows actives requests
     → length bases ≡ figures_length → ((n : ℕ) → n < length parents → at bases n ≡ 0) → length wholes ≡ figures_length → length amounts ≡ figures_length → length before ≡ figures_length → length dealt ≡ figures_length

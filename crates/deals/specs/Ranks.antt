@@ -9,6 +9,7 @@ use Rattle.deals.specs.Headroom.{requests_at}
 use Rattle.deals.specs.Held.{cut_from}
 use Rattle.deals.specs.Properties.{StartsFit}
 use Rattle.deals.specs.Levels.{LevelLists}
+use Rattle.deals.specs.declared.levels.Level.{Level}
 
 -- The nodes of a room: for each its parent's number and its limit.
 pub record NodeLists (parents limits : List ℕ) : Type 0 where
@@ -53,14 +54,14 @@ pub record Spare (parents limits nodes watts spare : List ℕ) : Type 0 where
 
 -- The lists are those of a deal by these limits, levels and lows; `rows`, `order` and `actives` are what `levels` makes of the levels,
 -- and `spare` is what the limits have over the starts.
-pub record DealGiven (parents : List ℕ) (rows : List (List ℕ)) (order : List ℕ) (actives : List (List ℕ))
+pub record DealGiven (parents : List ℕ) (rows : List Level) (order : List ℕ) (actives : List (List ℕ))
     (nodes starts wants spare limits levels lows : List ℕ) : Type 0 where
   pub lists : DealLists parents limits nodes levels lows starts wants
   pub by_level : LevelLists parents nodes levels rows order actives
   pub spared : Spare parents limits nodes starts spare
 
 -- There are such limits, levels and lows. The code needs none: `spare` and the lists by level have all that it uses of them.
-pub record SomeDeal (parents : List ℕ) (rows : List (List ℕ)) (order : List ℕ) (actives : List (List ℕ))
+pub record SomeDeal (parents : List ℕ) (rows : List Level) (order : List ℕ) (actives : List (List ℕ))
     (nodes starts wants spare : List ℕ) : Type 0 where
   pub limits : List ℕ
   pub levels : List ℕ

@@ -6,7 +6,7 @@ ghost use Rattle.deals.specs.Ranks.{SomeDeal, DealGiven, DealMade};
 ghost use Rattle.figures.specs.Places.{Zeros};
 
 use crate::dealing::{deal_cords, deal_nodes};
-use crate::levels::{ACTIVE_COUNT, FROM, TO};
+use crate::levels::Level;
 use crate::metrics::{add_cords, request};
 
 // The length of the lists with a rank's figure of each node: a little more than the most nodes. 512 figures of 64 bits fill a page, so
@@ -22,7 +22,7 @@ pub const FIGURES: usize = 520;
 // and then what it has to give), `before` (weights served) and `dealt` that of each active one.
 pub fn deal(
     parents: &[u16],
-    levels: &[[u16; 4]; 16],
+    levels: &[Level; 16],
     order: &[u16],
     actives: &[[u16; 512]; 16],
     nodes: &[u16],
@@ -47,11 +47,11 @@ pub fn deal(
     let mut dealt = [0u32; FIGURES];
     let n = parents.len();
     for level in (0..16).rev() {
-        let from = usize::from(levels[level][FROM]);
-        let to = usize::from(levels[level][TO]);
+        let from = usize::from(levels[level].from);
+        let to = usize::from(levels[level].to);
         if from < to {
             let listed = &order[from..to];
-            let count = usize::from(levels[level][ACTIVE_COUNT]);
+            let count = usize::from(levels[level].active_count);
             let active = &actives[level][..count];
             add_cords(n, listed, nodes, starts, wants, &mut bases, &mut wholes);
             request(

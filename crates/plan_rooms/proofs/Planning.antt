@@ -29,6 +29,7 @@ use Rattle.deals.proofs.RoomDeals.{deal_of_is, parents_of-length, limits_of-leng
 use Rattle.deals.proofs.BothDeals.{cord_facts, lows_of-length, carried_by-length, lows_under, grants_way, first_wants-lows, first_starts, first_used-granted, first_dealable, second_dealable}
 use Rattle.deals.proofs.Bounds.{bounded}
 use Rattle.deals.proofs.StartsFit.{first_fit, second_fit}
+use Rattle.deals.specs.declared.levels.Level.{Level}
 use Rattle.deals.specs.Levels.{LevelLists, RoomCords}
 use Rattle.figures.proofs.Cells.{zeros-front}
 use Rattle.deals.specs.Ranks.{DealLists, list_beneath, Spare, DealGiven, DealMade}
@@ -198,7 +199,7 @@ module _ {r : Room} (ok : Accepted r) {demands parents spare : List ℕ} {cords 
       over = λ n l. over n l ∙ spared.over n l;
     }
 
-  module _ {bounds : List (List ℕ)} {order : List ℕ} {actives : List (List ℕ)} (listed : LevelLists parents (column node_column cords) (column level_column cords) bounds order actives) where
+  module _ {bounds : List Level} {order : List ℕ} {actives : List (List ℕ)} (listed : LevelLists parents (column node_column cords) (column level_column cords) bounds order actives) where
     by_level : LevelLists parents nodes (levels_of r) bounds order actives
     by_level = rw (of.nodes_are, sym rows.nodes, sym rows.levels) listed
 

@@ -11,7 +11,7 @@ ghost use Rattle.plan_rooms.specs.Planning.{RoomToDeal, SomeRoom, DealtTwice, Pl
 ghost use Rattle.figures.specs.Places.{Zeros};
 
 use deals::by_rank::deal;
-use deals::levels::list_levels;
+use deals::levels::{NO_CORDS, list_levels};
 use layout::list_nodes;
 use layout::room::Counts;
 use plan_headroom::lend;
@@ -42,7 +42,7 @@ fn deal_twice(
         wants.old caps.old scale
         → DealtTwice r demands result wants.new left.new cuts.new grants.new caps.new }
 {
-    let mut levels = [[0u16; 4]; 16];
+    let mut levels = [NO_CORDS; 16];
     let mut order = [0u16; 1024];
     let mut actives = [[0u16; 512]; 16];
     let mut first_left = [0u32; 512];
@@ -52,8 +52,9 @@ fn deal_twice(
     let n = parents.len();
     let k = nodes.len();
     let v = caps.len();
-    first_left[..n].copy_from_slice(left);
-    usable[..v].copy_from_slice(caps);
+    // By hand: std's `copy_from_slice` calls through a function that it is given, which the chips' build does not take (chips/portable.awk).
+    figures::copy(left, &mut first_left[..n]);
+    figures::copy(caps, &mut usable[..v]);
     list_levels(parents, cords, &mut levels, &mut order[..k], &mut actives);
     deal(
         parents,

@@ -10,16 +10,17 @@ use Prim.Native.Nat.{ℕ, ◌≤◌}
 use native.Mathlib.Omega.{arith}
 use lib.ListN.{length, take, replicate}
 use Rattle.figures.specs.Figures.{column}
+use Rattle.figures.proofs.Stores.{sets_all}
 use Rattle.rooms.specs.Table.{Room, most_nodes, most_cords, most_servers, highest_rank}
 use Rattle.rooms.proofs.Accepted.{Accepted, accepted}
 use Rattle.rooms.specs.Lists.{limits_of, levels_of}
 use Rattle.rooms.specs.Rows.{node_column, level_column, server_column, share_column}
 use Rattle.deals.specs.SecondDeal.{first_grants, first_used, second_deal, second_wants}
 use Rattle.deals.specs.SecondDeal as second
-use Rattle.deals.specs.Levels.{LevelLists, to_column}
+use Rattle.deals.specs.Levels.{LevelLists, no_cords}
 use Rattle.deals.specs.Ranks.{DealGiven, DealMade}
 use Rattle.plan_reclaim.specs.Reclaimed.{usable_from}
-use Rattle.figures.proofs.Cells.{zeros-front, zeros_rows, zeros_cells}
+use Rattle.figures.proofs.Cells.{zeros-front, zeros_rows}
 use Rattle.figures.proofs.Fronts.{equal_length, Lent, lent, lent-zeros, rejoined, lent_again, lent_few, lent-front}
 use Rattle.plan_rooms.specs.Planning.{RoomToDeal}
 use Rattle.plan_rooms.proofs.Planning.{blank_marks, needs_size, cord-count, wants_count, levels_nodes, levels_cords, first_given, first_made, raisable, raised, second_given, second_made, second_dealt, server-lists, reclaim_asks, first-used, freed_is, second-wants, caps_are}
@@ -32,17 +33,12 @@ slice_bounds-first_left-end c =
     let nodes_few : nodes_s ≤ most_nodes = (levels_nodes room c.requires.room.lists).0 in
     omega (arith, nodes_few, equal_length {A = ℕ} most_nodes 0)
 
-pub slice_bounds-copy_from_slice-end : goal.slice_bounds-copy_from_slice-end
-slice_bounds-copy_from_slice-end c =
+pub slice_bounds-copy-end : goal.slice_bounds-copy-end
+slice_bounds-copy-end c =
     let room : Accepted c.requires.room.room = accepted c.requires.room.table c.requires.room.room c.requires.room.end c.requires.room.is in
     let nodes_s : ℕ = length c.args.parents.now in
     let nodes_few : nodes_s ≤ most_nodes = (levels_nodes room c.requires.room.lists).0 in
     sym (zeros-front most_nodes _ nodes_few)
-
-pub copy_from_slice-requires : goal.copy_from_slice-requires
-copy_from_slice-requires c =
-    let room : Accepted c.requires.room.room = accepted c.requires.room.table c.requires.room.room c.requires.room.end c.requires.room.is in
-    zeros-front most_nodes _ (levels_nodes room c.requires.room.lists).0 ∙ sym c.requires.room.lists.lists.spare_size
 
 pub slice_bounds-usable-end : goal.slice_bounds-usable-end
 slice_bounds-usable-end c =
@@ -51,17 +47,12 @@ slice_bounds-usable-end c =
     let servers_few : servers_s ≤ most_servers = omega (arith, needs_size room c.requires.room.lists, room.few_servers) in
     omega (arith, servers_few, equal_length {A = ℕ} most_servers 0)
 
-pub slice_bounds-copy_from_slice-end-2 : goal.slice_bounds-copy_from_slice-end-2
-slice_bounds-copy_from_slice-end-2 c =
+pub slice_bounds-copy-end-2 : goal.slice_bounds-copy-end-2
+slice_bounds-copy-end-2 c =
     let room : Accepted c.requires.room.room = accepted c.requires.room.table c.requires.room.room c.requires.room.end c.requires.room.is in
     let servers_s : ℕ = length c.args.caps.now in
     let servers_few : servers_s ≤ most_servers = omega (arith, needs_size room c.requires.room.lists, room.few_servers) in
     sym (zeros-front most_servers _ servers_few)
-
-pub copy_from_slice-requires-2 : goal.copy_from_slice-requires-2
-copy_from_slice-requires-2 c =
-    let room : Accepted c.requires.room.room = accepted c.requires.room.table c.requires.room.room c.requires.room.end c.requires.room.is in
-    zeros-front most_servers _ (omega (arith, needs_size room c.requires.room.lists, room.few_servers))
 
 pub slice_bounds-order-end : goal.slice_bounds-order-end
 slice_bounds-order-end c =
@@ -85,7 +76,7 @@ list_levels-requires c =
     record {
       nodes = levels_nodes room c.requires.room.lists;
       cords = (levels_cords room c.requires.room.lists, zeros-front most_cords _ cords_few ∙ sym (cord-count room c.requires.room.lists), zeros_rows highest_rank most_nodes);
-      rows = (zeros_rows highest_rank 4, λ j. zeros_cells highest_rank 4 j to_column);
+      rows = equal_length highest_rank no_cords;
     }
 
 pub slice_bounds-order-end-2 : goal.slice_bounds-order-end-2
@@ -111,8 +102,8 @@ slice_bounds-first_left-end-2 c =
     let room : Accepted c.requires.room.room = accepted c.requires.room.table c.requires.room.room c.requires.room.end c.requires.room.is in
     let nodes_s : ℕ = length c.args.parents.now in
     let nodes_few : nodes_s ≤ most_nodes = (levels_nodes room c.requires.room.lists).0 in
-    let first_left_back : List ℕ = c.copy_from_slice.new.self in
-    let first_left_lent : Lent nodes_s (replicate most_nodes 0) first_left_back = lent-zeros most_nodes nodes_few c.copy_from_slice.auto.self in
+    let first_left_back : List ℕ = c.copy.new.to in
+    let first_left_lent : Lent nodes_s (replicate most_nodes 0) first_left_back = lent-zeros most_nodes nodes_few c.copy.auto.to in
     lent_few first_left_lent
 
 pub slice_bounds-deal-end-2 : goal.slice_bounds-deal-end-2
@@ -120,8 +111,8 @@ slice_bounds-deal-end-2 c =
     let room : Accepted c.requires.room.room = accepted c.requires.room.table c.requires.room.room c.requires.room.end c.requires.room.is in
     let nodes_s : ℕ = length c.args.parents.now in
     let nodes_few : nodes_s ≤ most_nodes = (levels_nodes room c.requires.room.lists).0 in
-    let first_left_back : List ℕ = c.copy_from_slice.new.self in
-    let first_left_lent : Lent nodes_s (replicate most_nodes 0) first_left_back = lent-zeros most_nodes nodes_few c.copy_from_slice.auto.self in
+    let first_left_back : List ℕ = c.copy.new.to in
+    let first_left_lent : Lent nodes_s (replicate most_nodes 0) first_left_back = lent-zeros most_nodes nodes_few c.copy.auto.to in
     lent-front first_left_lent
 
 pub slice_bounds-first_cuts-end : goal.slice_bounds-first_cuts-end
@@ -146,10 +137,10 @@ deal-requires c =
     let cords_s : ℕ = length c.args.nodes.now in
     let nodes_few : nodes_s ≤ most_nodes = (levels_nodes room c.requires.room.lists).0 in
     let cords_few : cords_s ≤ most_cords = omega (arith, (levels_cords room c.requires.room.lists).few, cord-count room c.requires.room.lists) in
-    let first_left_lent : Lent nodes_s (replicate most_nodes 0) c.copy_from_slice.new.self = lent-zeros most_nodes nodes_few c.copy_from_slice.auto.self in
+    let first_left_lent : Lent nodes_s (replicate most_nodes 0) c.copy.new.to = lent-zeros most_nodes nodes_few c.copy.auto.to in
     let order_lent : Lent cords_s (replicate most_cords 0) c.list_levels.new.order = lent-zeros most_cords cords_few c.list_levels.auto.order in
-    let first_left_after : List ℕ = rejoined nodes_s (replicate most_nodes 0) c.copy_from_slice.new.self in
-    let first_left_is : take nodes_s first_left_after ≡ c.args.left.now = lent_again first_left_lent ∙ c.copy_from_slice.ensures.after in
+    let first_left_after : List ℕ = rejoined nodes_s (replicate most_nodes 0) c.copy.new.to in
+    let first_left_is : take nodes_s first_left_after ≡ c.args.left.now = lent_again first_left_lent ∙ c.copy.ensures.copied ∙ sets_all _ _ (zeros-front most_nodes _ nodes_few ∙ sym c.requires.room.lists.lists.spare_size) in
     let order_after : List ℕ = rejoined cords_s (replicate most_cords 0) c.list_levels.new.order in
     let listed_at : LevelLists c.args.parents.now (column node_column c.args.cords.now) (column level_column c.args.cords.now) c.list_levels.new.levels (take cords_s order_after) c.list_levels.new.actives = rw (lent_again order_lent) c.list_levels.ensures.listed in
     let first_lent : (r : Room) → Accepted r → (demands : List ℕ) → RoomOf r demands → DealGiven c.args.parents.now c.list_levels.new.levels (take cords_s order_after) c.list_levels.new.actives c.args.nodes.now c.args.lows.now c.args.wants.now (take nodes_s first_left_after) (limits_of r) (levels_of r) c.args.lows.now = λ r ok demands of. first_given ok of listed_at first_left_is in
@@ -160,8 +151,8 @@ slice_bounds-usable-end-2 c =
     let room : Accepted c.requires.room.room = accepted c.requires.room.table c.requires.room.room c.requires.room.end c.requires.room.is in
     let servers_s : ℕ = length c.args.caps.now in
     let servers_few : servers_s ≤ most_servers = omega (arith, needs_size room c.requires.room.lists, room.few_servers) in
-    let needs-back : List ℕ = c.copy_from_slice-2.new.self in
-    let needs-lent : Lent servers_s (replicate most_servers 0) needs-back = lent-zeros most_servers servers_few c.copy_from_slice-2.auto.self in
+    let needs-back : List ℕ = c.copy-2.new.to in
+    let needs-lent : Lent servers_s (replicate most_servers 0) needs-back = lent-zeros most_servers servers_few c.copy-2.auto.to in
     lent_few needs-lent
 
 pub slice_bounds-usable_of-end : goal.slice_bounds-usable_of-end
@@ -169,8 +160,8 @@ slice_bounds-usable_of-end c =
     let room : Accepted c.requires.room.room = accepted c.requires.room.table c.requires.room.room c.requires.room.end c.requires.room.is in
     let servers_s : ℕ = length c.args.caps.now in
     let servers_few : servers_s ≤ most_servers = omega (arith, needs_size room c.requires.room.lists, room.few_servers) in
-    let needs-back : List ℕ = c.copy_from_slice-2.new.self in
-    let needs-lent : Lent servers_s (replicate most_servers 0) needs-back = lent-zeros most_servers servers_few c.copy_from_slice-2.auto.self in
+    let needs-back : List ℕ = c.copy-2.new.to in
+    let needs-lent : Lent servers_s (replicate most_servers 0) needs-back = lent-zeros most_servers servers_few c.copy-2.auto.to in
     lent-front needs-lent
 
 pub usable_of-requires : goal.usable_of-requires
@@ -179,10 +170,10 @@ usable_of-requires c =
     let cords_s : ℕ = length c.args.nodes.now in
     let servers_s : ℕ = length c.args.caps.now in
     let servers_few : servers_s ≤ most_servers = omega (arith, needs_size room c.requires.room.lists, room.few_servers) in
-    let needs-lent : Lent servers_s (replicate most_servers 0) c.copy_from_slice-2.new.self = lent-zeros most_servers servers_few c.copy_from_slice-2.auto.self in
+    let needs-lent : Lent servers_s (replicate most_servers 0) c.copy-2.new.to = lent-zeros most_servers servers_few c.copy-2.auto.to in
     let grants_size : length c.deal.new.grants ≡ cords_s = c.deal.auto.grants ∙ c.requires.blank.1 in
-    let needs-after : List ℕ = rejoined servers_s (replicate most_servers 0) c.copy_from_slice-2.new.self in
-    let needs_are : take servers_s needs-after ≡ c.args.caps.now = lent_again needs-lent ∙ c.copy_from_slice-2.ensures.after in
+    let needs-after : List ℕ = rejoined servers_s (replicate most_servers 0) c.copy-2.new.to in
+    let needs_are : take servers_s needs-after ≡ c.args.caps.now = lent_again needs-lent ∙ c.copy-2.ensures.copied ∙ sets_all _ _ (zeros-front most_servers _ servers_few) in
     record { lists = rw needs_are (server-lists room c.requires.room.lists grants_size) }
 
 pub slice_bounds-usable-end-3 : goal.slice_bounds-usable-end-3
@@ -190,8 +181,8 @@ slice_bounds-usable-end-3 c =
     let room : Accepted c.requires.room.room = accepted c.requires.room.table c.requires.room.room c.requires.room.end c.requires.room.is in
     let servers_s : ℕ = length c.args.caps.now in
     let servers_few : servers_s ≤ most_servers = omega (arith, needs_size room c.requires.room.lists, room.few_servers) in
-    let needs-back : List ℕ = c.copy_from_slice-2.new.self in
-    let needs-lent : Lent servers_s (replicate most_servers 0) needs-back = lent-zeros most_servers servers_few c.copy_from_slice-2.auto.self in
+    let needs-back : List ℕ = c.copy-2.new.to in
+    let needs-lent : Lent servers_s (replicate most_servers 0) needs-back = lent-zeros most_servers servers_few c.copy-2.auto.to in
     let needs-after : List ℕ = rejoined servers_s (replicate most_servers 0) needs-back in
     let usable-back : List ℕ = c.usable_of.new.usable in
     let usable-lent : Lent servers_s needs-after usable-back = lent (lent_few needs-lent) c.usable_of.auto.usable in
@@ -202,8 +193,8 @@ slice_bounds-reclaim-end c =
     let room : Accepted c.requires.room.room = accepted c.requires.room.table c.requires.room.room c.requires.room.end c.requires.room.is in
     let servers_s : ℕ = length c.args.caps.now in
     let servers_few : servers_s ≤ most_servers = omega (arith, needs_size room c.requires.room.lists, room.few_servers) in
-    let needs-back : List ℕ = c.copy_from_slice-2.new.self in
-    let needs-lent : Lent servers_s (replicate most_servers 0) needs-back = lent-zeros most_servers servers_few c.copy_from_slice-2.auto.self in
+    let needs-back : List ℕ = c.copy-2.new.to in
+    let needs-lent : Lent servers_s (replicate most_servers 0) needs-back = lent-zeros most_servers servers_few c.copy-2.auto.to in
     let needs-after : List ℕ = rejoined servers_s (replicate most_servers 0) needs-back in
     let usable-back : List ℕ = c.usable_of.new.usable in
     let usable-lent : Lent servers_s needs-after usable-back = lent (lent_few needs-lent) c.usable_of.auto.usable in
@@ -233,15 +224,15 @@ reclaim-freed-requires c =
     let nodes_few : nodes_s ≤ most_nodes = (levels_nodes room c.requires.room.lists).0 in
     let cords_few : cords_s ≤ most_cords = omega (arith, (levels_cords room c.requires.room.lists).few, cord-count room c.requires.room.lists) in
     let servers_few : servers_s ≤ most_servers = omega (arith, needs_size room c.requires.room.lists, room.few_servers) in
-    let first_left_lent : Lent nodes_s (replicate most_nodes 0) c.copy_from_slice.new.self = lent-zeros most_nodes nodes_few c.copy_from_slice.auto.self in
-    let needs-lent : Lent servers_s (replicate most_servers 0) c.copy_from_slice-2.new.self = lent-zeros most_servers servers_few c.copy_from_slice-2.auto.self in
+    let first_left_lent : Lent nodes_s (replicate most_nodes 0) c.copy.new.to = lent-zeros most_nodes nodes_few c.copy.auto.to in
+    let needs-lent : Lent servers_s (replicate most_servers 0) c.copy-2.new.to = lent-zeros most_servers servers_few c.copy-2.auto.to in
     let order_lent : Lent cords_s (replicate most_cords 0) c.list_levels.new.order = lent-zeros most_cords cords_few c.list_levels.auto.order in
     let grants_size : length c.deal.new.grants ≡ cords_s = c.deal.auto.grants ∙ c.requires.blank.1 in
-    let needs-after : List ℕ = rejoined servers_s (replicate most_servers 0) c.copy_from_slice-2.new.self in
+    let needs-after : List ℕ = rejoined servers_s (replicate most_servers 0) c.copy-2.new.to in
     let usable-lent : Lent servers_s needs-after c.usable_of.new.usable = lent (lent_few needs-lent) c.usable_of.auto.usable in
-    let first_left_after : List ℕ = rejoined nodes_s (replicate most_nodes 0) c.copy_from_slice.new.self in
-    let first_left_is : take nodes_s first_left_after ≡ c.args.left.now = lent_again first_left_lent ∙ c.copy_from_slice.ensures.after in
-    let needs_are : take servers_s needs-after ≡ c.args.caps.now = lent_again needs-lent ∙ c.copy_from_slice-2.ensures.after in
+    let first_left_after : List ℕ = rejoined nodes_s (replicate most_nodes 0) c.copy.new.to in
+    let first_left_is : take nodes_s first_left_after ≡ c.args.left.now = lent_again first_left_lent ∙ c.copy.ensures.copied ∙ sets_all _ _ (zeros-front most_nodes _ nodes_few ∙ sym c.requires.room.lists.lists.spare_size) in
+    let needs_are : take servers_s needs-after ≡ c.args.caps.now = lent_again needs-lent ∙ c.copy-2.ensures.copied ∙ sets_all _ _ (zeros-front most_servers _ servers_few) in
     let order_after : List ℕ = rejoined cords_s (replicate most_cords 0) c.list_levels.new.order in
     let listed_at : LevelLists c.args.parents.now (column node_column c.args.cords.now) (column level_column c.args.cords.now) c.list_levels.new.levels (take cords_s order_after) c.list_levels.new.actives = rw (lent_again order_lent) c.list_levels.ensures.listed in
     let first_lent : (r : Room) → Accepted r → (demands : List ℕ) → RoomOf r demands → DealGiven c.args.parents.now c.list_levels.new.levels (take cords_s order_after) c.list_levels.new.actives c.args.nodes.now c.args.lows.now c.args.wants.now (take nodes_s first_left_after) (limits_of r) (levels_of r) c.args.lows.now = λ r ok demands of. first_given ok of listed_at first_left_is in
@@ -280,15 +271,15 @@ raise_starts-requires c =
     let nodes_few : nodes_s ≤ most_nodes = (levels_nodes room c.requires.room.lists).0 in
     let cords_few : cords_s ≤ most_cords = omega (arith, (levels_cords room c.requires.room.lists).few, cord-count room c.requires.room.lists) in
     let servers_few : servers_s ≤ most_servers = omega (arith, needs_size room c.requires.room.lists, room.few_servers) in
-    let first_left_lent : Lent nodes_s (replicate most_nodes 0) c.copy_from_slice.new.self = lent-zeros most_nodes nodes_few c.copy_from_slice.auto.self in
-    let needs-lent : Lent servers_s (replicate most_servers 0) c.copy_from_slice-2.new.self = lent-zeros most_servers servers_few c.copy_from_slice-2.auto.self in
+    let first_left_lent : Lent nodes_s (replicate most_nodes 0) c.copy.new.to = lent-zeros most_nodes nodes_few c.copy.auto.to in
+    let needs-lent : Lent servers_s (replicate most_servers 0) c.copy-2.new.to = lent-zeros most_servers servers_few c.copy-2.auto.to in
     let order_lent : Lent cords_s (replicate most_cords 0) c.list_levels.new.order = lent-zeros most_cords cords_few c.list_levels.auto.order in
-    let needs-after : List ℕ = rejoined servers_s (replicate most_servers 0) c.copy_from_slice-2.new.self in
+    let needs-after : List ℕ = rejoined servers_s (replicate most_servers 0) c.copy-2.new.to in
     let usable-lent : Lent servers_s needs-after c.usable_of.new.usable = lent (lent_few needs-lent) c.usable_of.auto.usable in
     let starts_lent : Lent cords_s (replicate most_cords 0) c.reclaim-freed.new.starts = lent-zeros most_cords cords_few c.reclaim-freed.auto.starts in
-    let first_left_after : List ℕ = rejoined nodes_s (replicate most_nodes 0) c.copy_from_slice.new.self in
-    let first_left_is : take nodes_s first_left_after ≡ c.args.left.now = lent_again first_left_lent ∙ c.copy_from_slice.ensures.after in
-    let needs_are : take servers_s needs-after ≡ c.args.caps.now = lent_again needs-lent ∙ c.copy_from_slice-2.ensures.after in
+    let first_left_after : List ℕ = rejoined nodes_s (replicate most_nodes 0) c.copy.new.to in
+    let first_left_is : take nodes_s first_left_after ≡ c.args.left.now = lent_again first_left_lent ∙ c.copy.ensures.copied ∙ sets_all _ _ (zeros-front most_nodes _ nodes_few ∙ sym c.requires.room.lists.lists.spare_size) in
+    let needs_are : take servers_s needs-after ≡ c.args.caps.now = lent_again needs-lent ∙ c.copy-2.ensures.copied ∙ sets_all _ _ (zeros-front most_servers _ servers_few) in
     let order_after : List ℕ = rejoined cords_s (replicate most_cords 0) c.list_levels.new.order in
     let listed_at : LevelLists c.args.parents.now (column node_column c.args.cords.now) (column level_column c.args.cords.now) c.list_levels.new.levels (take cords_s order_after) c.list_levels.new.actives = rw (lent_again order_lent) c.list_levels.ensures.listed in
     let first_lent : (r : Room) → Accepted r → (demands : List ℕ) → RoomOf r demands → DealGiven c.args.parents.now c.list_levels.new.levels (take cords_s order_after) c.list_levels.new.actives c.args.nodes.now c.args.lows.now c.args.wants.now (take nodes_s first_left_after) (limits_of r) (levels_of r) c.args.lows.now = λ r ok demands of. first_given ok of listed_at first_left_is in
@@ -348,16 +339,16 @@ deal-requires-2 c =
     let nodes_few : nodes_s ≤ most_nodes = (levels_nodes room c.requires.room.lists).0 in
     let cords_few : cords_s ≤ most_cords = omega (arith, (levels_cords room c.requires.room.lists).few, cord-count room c.requires.room.lists) in
     let servers_few : servers_s ≤ most_servers = omega (arith, needs_size room c.requires.room.lists, room.few_servers) in
-    let first_left_lent : Lent nodes_s (replicate most_nodes 0) c.copy_from_slice.new.self = lent-zeros most_nodes nodes_few c.copy_from_slice.auto.self in
-    let needs-lent : Lent servers_s (replicate most_servers 0) c.copy_from_slice-2.new.self = lent-zeros most_servers servers_few c.copy_from_slice-2.auto.self in
+    let first_left_lent : Lent nodes_s (replicate most_nodes 0) c.copy.new.to = lent-zeros most_nodes nodes_few c.copy.auto.to in
+    let needs-lent : Lent servers_s (replicate most_servers 0) c.copy-2.new.to = lent-zeros most_servers servers_few c.copy-2.auto.to in
     let order_lent : Lent cords_s (replicate most_cords 0) c.list_levels.new.order = lent-zeros most_cords cords_few c.list_levels.auto.order in
     let grants_size : length c.deal.new.grants ≡ cords_s = c.deal.auto.grants ∙ c.requires.blank.1 in
-    let needs-after : List ℕ = rejoined servers_s (replicate most_servers 0) c.copy_from_slice-2.new.self in
+    let needs-after : List ℕ = rejoined servers_s (replicate most_servers 0) c.copy-2.new.to in
     let usable-lent : Lent servers_s needs-after c.usable_of.new.usable = lent (lent_few needs-lent) c.usable_of.auto.usable in
     let starts_lent : Lent cords_s (replicate most_cords 0) c.reclaim-freed.new.starts = lent-zeros most_cords cords_few c.reclaim-freed.auto.starts in
-    let first_left_after : List ℕ = rejoined nodes_s (replicate most_nodes 0) c.copy_from_slice.new.self in
-    let first_left_is : take nodes_s first_left_after ≡ c.args.left.now = lent_again first_left_lent ∙ c.copy_from_slice.ensures.after in
-    let needs_are : take servers_s needs-after ≡ c.args.caps.now = lent_again needs-lent ∙ c.copy_from_slice-2.ensures.after in
+    let first_left_after : List ℕ = rejoined nodes_s (replicate most_nodes 0) c.copy.new.to in
+    let first_left_is : take nodes_s first_left_after ≡ c.args.left.now = lent_again first_left_lent ∙ c.copy.ensures.copied ∙ sets_all _ _ (zeros-front most_nodes _ nodes_few ∙ sym c.requires.room.lists.lists.spare_size) in
+    let needs_are : take servers_s needs-after ≡ c.args.caps.now = lent_again needs-lent ∙ c.copy-2.ensures.copied ∙ sets_all _ _ (zeros-front most_servers _ servers_few) in
     let order_after : List ℕ = rejoined cords_s (replicate most_cords 0) c.list_levels.new.order in
     let listed_at : LevelLists c.args.parents.now (column node_column c.args.cords.now) (column level_column c.args.cords.now) c.list_levels.new.levels (take cords_s order_after) c.list_levels.new.actives = rw (lent_again order_lent) c.list_levels.ensures.listed in
     let first_lent : (r : Room) → Accepted r → (demands : List ℕ) → RoomOf r demands → DealGiven c.args.parents.now c.list_levels.new.levels (take cords_s order_after) c.list_levels.new.actives c.args.nodes.now c.args.lows.now c.args.wants.now (take nodes_s first_left_after) (limits_of r) (levels_of r) c.args.lows.now = λ r ok demands of. first_given ok of listed_at first_left_is in
@@ -407,15 +398,15 @@ returns c =
     let nodes_few : nodes_s ≤ most_nodes = (levels_nodes room c.requires.room.lists).0 in
     let cords_few : cords_s ≤ most_cords = omega (arith, (levels_cords room c.requires.room.lists).few, cord-count room c.requires.room.lists) in
     let servers_few : servers_s ≤ most_servers = omega (arith, needs_size room c.requires.room.lists, room.few_servers) in
-    let first_left_lent : Lent nodes_s (replicate most_nodes 0) c.copy_from_slice.new.self = lent-zeros most_nodes nodes_few c.copy_from_slice.auto.self in
-    let needs-lent : Lent servers_s (replicate most_servers 0) c.copy_from_slice-2.new.self = lent-zeros most_servers servers_few c.copy_from_slice-2.auto.self in
+    let first_left_lent : Lent nodes_s (replicate most_nodes 0) c.copy.new.to = lent-zeros most_nodes nodes_few c.copy.auto.to in
+    let needs-lent : Lent servers_s (replicate most_servers 0) c.copy-2.new.to = lent-zeros most_servers servers_few c.copy-2.auto.to in
     let order_lent : Lent cords_s (replicate most_cords 0) c.list_levels.new.order = lent-zeros most_cords cords_few c.list_levels.auto.order in
-    let needs-after : List ℕ = rejoined servers_s (replicate most_servers 0) c.copy_from_slice-2.new.self in
+    let needs-after : List ℕ = rejoined servers_s (replicate most_servers 0) c.copy-2.new.to in
     let usable-lent : Lent servers_s needs-after c.usable_of.new.usable = lent (lent_few needs-lent) c.usable_of.auto.usable in
     let starts_lent : Lent cords_s (replicate most_cords 0) c.reclaim-freed.new.starts = lent-zeros most_cords cords_few c.reclaim-freed.auto.starts in
-    let first_left_after : List ℕ = rejoined nodes_s (replicate most_nodes 0) c.copy_from_slice.new.self in
-    let first_left_is : take nodes_s first_left_after ≡ c.args.left.now = lent_again first_left_lent ∙ c.copy_from_slice.ensures.after in
-    let needs_are : take servers_s needs-after ≡ c.args.caps.now = lent_again needs-lent ∙ c.copy_from_slice-2.ensures.after in
+    let first_left_after : List ℕ = rejoined nodes_s (replicate most_nodes 0) c.copy.new.to in
+    let first_left_is : take nodes_s first_left_after ≡ c.args.left.now = lent_again first_left_lent ∙ c.copy.ensures.copied ∙ sets_all _ _ (zeros-front most_nodes _ nodes_few ∙ sym c.requires.room.lists.lists.spare_size) in
+    let needs_are : take servers_s needs-after ≡ c.args.caps.now = lent_again needs-lent ∙ c.copy-2.ensures.copied ∙ sets_all _ _ (zeros-front most_servers _ servers_few) in
     let order_after : List ℕ = rejoined cords_s (replicate most_cords 0) c.list_levels.new.order in
     let listed_at : LevelLists c.args.parents.now (column node_column c.args.cords.now) (column level_column c.args.cords.now) c.list_levels.new.levels (take cords_s order_after) c.list_levels.new.actives = rw (lent_again order_lent) c.list_levels.ensures.listed in
     let first_lent : (r : Room) → Accepted r → (demands : List ℕ) → RoomOf r demands → DealGiven c.args.parents.now c.list_levels.new.levels (take cords_s order_after) c.list_levels.new.actives c.args.nodes.now c.args.lows.now c.args.wants.now (take nodes_s first_left_after) (limits_of r) (levels_of r) c.args.lows.now = λ r ok demands of. first_given ok of listed_at first_left_is in

@@ -16,11 +16,11 @@ pub fed_none : {h g : HeldReading} → h ≡ g → FedPiece g h
 unfolding fed
 fed_none e = record { piece = []; is = e }
 
-pub fed_more : {a b c : HeldReading} → FedPiece a b → FedPiece b c → FedPiece a c
-fed_more {a} p q =
+pub fed_more : {a b c : HeldReading} (piece : List ℕ) → FedPiece a b → c ≡ fed b piece → FedPiece a c
+fed_more {a} piece p e =
     record {
-      piece = p.piece ++ q.piece;
-      is = q.is ∙ ap (λ (h : HeldReading). fed h q.piece) p.is ∙ sym (fed-append a p.piece q.piece);
+      piece = p.piece ++ piece;
+      is = e ∙ ap (λ (h : HeldReading). fed h piece) p.is ∙ sym (fed-append a p.piece piece);
     }
 
 -- At the end the front of the list has the text's demands.

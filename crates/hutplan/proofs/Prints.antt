@@ -12,7 +12,7 @@ use Rattle.rooms.specs.Limits.{checked}
 use Rattle.rooms.specs.Outcome.{SheetOutcome, reading, sheet_refusal_number, sheet_refusal_place}
 use Rattle.rooms.specs.Outcome as read
 use Rattle.rooms.specs.declared.SheetRefusal.{SheetRefusal}
-use Rattle.rooms.specs.declared.SheetAnswer.TheVariants as answer
+use Rattle.std.proofs.Common.{Ok, Err}
 use Rattle.rooms.proofs.Lent.{reading_fits}
 use Rattle.outcomes.specs.Outcome.{after}
 use Rattle.outcomes.specs.Outcome as outcomes
@@ -21,8 +21,6 @@ use Rattle.deals.specs.declared.Lengths.{Lengths}
 use Rattle.deals.specs.declared.PlanList.{PlanList}
 use Rattle.deals.specs.declared.PlanList.TheVariants.{Grants, Caps, Headroom, Held}
 use Rattle.deals.specs.declared.PlanRefusal.{PlanRefusal}
-use Rattle.deals.specs.declared.Planned.{Planned}
-use Rattle.deals.specs.declared.Planned.TheVariants.{Accepted, Refused}
 use Rattle.deals.specs.declared.PlanRefusal.TheVariants.{Table}
 use Rattle.deals.proofs.Plans.{plan_good_table, Fits}
 use Rattle.deals.proofs.Lent.{plan-written}
@@ -46,27 +44,27 @@ module _ (table demands : List ℕ) (given : Lists) (most : lent given ≡ most_
   outcome = plan table demands (lent given)
 
   -- A refused plan.
-  pub table_refused : {a : Planned} {q : PlanRefusal} → a ≡ Refused q → a ≡ answer_of outcome
+  pub table_refused : {q : PlanRefusal} → Err q ≡ answer_of outcome
       → table_text table demands ≡ refused_line (plan_refusal_number q) (plan_refusal_place q)
   unfolding table_text plan
-  table_refused {q = q} told e =
-      go (checked table 0) (subst (λ (lengths : Lengths). Refused q ≡ answer_of (plan table demands lengths)) most (sym told ∙ e))
+  table_refused {q = q} e =
+      go (checked table 0) (subst (λ (lengths : Lengths). Err q ≡ answer_of (plan table demands lengths)) most e)
     where
-      room : (r : Room) (o : PlanOutcome) → Refused q ≡ answer_of o
+      room : (r : Room) (o : PlanOutcome) → Err q ≡ answer_of o
           → room_text r o ≡ refused_line (plan_refusal_number q) (plan_refusal_place q)
-      room r (outcomes.accepted answer) e = let z : ◌≡◌ {A = ℕ} 0 1 = cc in absurd (omega arith)
+      room r (outcomes.accepted answer) e = absurd (cc)
       room r (outcomes.refused p) e = let same : q ≡ p = cc in rw same
 
-      go : (s : Step Room) → Refused q ≡ answer_of (plan_step s demands most_lent)
+      go : (s : Step Room) → Err q ≡ answer_of (plan_step s demands most_lent)
           → step_text s demands ≡ refused_line (plan_refusal_number q) (plan_refusal_place q)
       go (good r end) e = room r (plan_room r demands most_lent) e
       go (bad refusal) e = let same : q ≡ Table refusal = cc in rw same
 
   -- An accepted plan, whose figures stand at the front of the lists.
-  pub table_accepted : (left : Lists) {a : Planned} {f : ℕ} → a ≡ Accepted f → a ≡ answer_of outcome
+  pub table_accepted : (left : Lists) {f : ℕ} → Ok f ≡ answer_of outcome
       → ((list : PlanList) → left list ≡ after (output list) outcome (given list)) → RoomText table demands f left
   unfolding table_text
-  table_accepted left {f = f} told e stored = go outcome refl (sym told ∙ e) stored
+  table_accepted left {f = f} e stored = go outcome refl e stored
     where
       in_room : (answer : Plan) → outcome ≡ outcomes.accepted answer
           → RoomText table demands answer.freed (λ list. sets (given list) 0 (output list answer))
@@ -85,9 +83,9 @@ module _ (table demands : List ℕ) (given : Lists) (most : lent given ≡ most_
                 ∙ sym (ap (λ (s : Step Room). step_text s demands) w.is_room ∙ ap (room_text w.room) room);
           }
 
-      go : (o : PlanOutcome) → outcome ≡ o → Accepted f ≡ answer_of o → ((list : PlanList) → left list ≡ after (output list) o (given list))
+      go : (o : PlanOutcome) → outcome ≡ o → Ok f ≡ answer_of o → ((list : PlanList) → left list ≡ after (output list) o (given list))
           → RoomText table demands f left
-      go (outcomes.refused q) is e stored = let z : ◌≡◌ {A = ℕ} 0 1 = cc in absurd (omega arith)
+      go (outcomes.refused q) is e stored = absurd (cc)
       go (outcomes.accepted answer) is e stored =
           let same : f ≡ answer.freed = cc in
           rw (same, fun_ext stored) (in_room answer is)
@@ -96,27 +94,27 @@ module _ (table demands : List ℕ) (given : Lists) (most : lent given ≡ most_
 
 -- A refused sheet.
 pub sheet_refused : (sheet demands : List ℕ) (n : ℕ) {q : SheetRefusal} → n ≡ most_words
-    → answer.Refused q ≡ read.answer_of (reading sheet n)
+    → Err q ≡ read.answer_of (reading sheet n)
     → sheet_text sheet demands ≡ refused_line (sheet_refusal_number q) (sheet_refusal_place q)
 unfolding sheet_text
 sheet_refused sheet demands n {q} h e = go (reading sheet most_words) (rw h at e)
   where
-    go : (o : SheetOutcome) → answer.Refused q ≡ read.answer_of o
+    go : (o : SheetOutcome) → Err q ≡ read.answer_of o
         → read_text o demands ≡ refused_line (sheet_refusal_number q) (sheet_refusal_place q)
-    go (outcomes.accepted words) e = let z : ◌≡◌ {A = ℕ} 0 1 = cc in absurd (omega arith)
+    go (outcomes.accepted words) e = absurd (cc)
     go (outcomes.refused p) e = let same : q ≡ p = cc in rw same
 
 -- An accepted sheet: its words stand at the front of the list.
 pub sheet_accepted : (sheet demands list list' : List ℕ) {count : ℕ} → length list ≡ most_words
-    → answer.Accepted count ≡ read.answer_of (reading sheet (length list))
+    → Ok count ≡ read.answer_of (reading sheet (length list))
     → list' ≡ after (λ l. l) (reading sheet (length list)) list
     → (count ≤ length list') × (table_text (take count list') demands ≡ sheet_text sheet demands)
 unfolding sheet_text
 sheet_accepted sheet demands list list' {count} h e l = go (reading sheet most_words) refl (rw h at e) (rw h at l)
   where
-    go : (o : SheetOutcome) → reading sheet most_words ≡ o → answer.Accepted count ≡ read.answer_of o → list' ≡ after (λ l. l) o list
+    go : (o : SheetOutcome) → reading sheet most_words ≡ o → Ok count ≡ read.answer_of o → list' ≡ after (λ l. l) o list
         → (count ≤ length list') × (table_text (take count list') demands ≡ read_text o demands)
-    go (outcomes.refused q) is e l = let z : ◌≡◌ {A = ℕ} 0 1 = cc in absurd (omega arith)
+    go (outcomes.refused q) is e l = absurd (cc)
     go (outcomes.accepted words) is e l =
         let n : count ≡ length words = cc in
         let fits : length words ≤ length list = rw h (reading_fits sheet most_words is) in

@@ -23,7 +23,7 @@ use Rattle.deals.specs.Plan.{PlanOutcome, plan_of, output, Lists, lent, most_len
 use Rattle.deals.specs.Plan as plan
 use Rattle.deals.specs.declared.Lengths.{Lengths}
 use Rattle.deals.specs.declared.PlanList.{PlanList}
-use Rattle.deals.specs.declared.Planned.TheVariants.{Accepted}
+use Rattle.std.proofs.Common.{Ok}
 use Rattle.deals.proofs.Plans.{count_none, output-length, lists-passed, plan_room_is, plan_good_table}
 use Rattle.deals.proofs.WorkedRooms.{figures_of, planned}
 use Rattle.demands.specs.Text.{before, lines, are_digits, number_after, demand_of, demands_of}
@@ -136,7 +136,7 @@ pub record Starred : Type 0 where
   pub byte80 : numbered (reading (0x80 ∷ []) 1) ≡ (3, 0)
   pub bytes018000 : numbered (reading (0x01 ∷ 0x80 ∷ 0x00 ∷ []) 3) ≡ (2, 1)
   pub bytes80808080 : numbered (reading (0x80 ∷ 0x80 ∷ 0x80 ∷ 0x80 ∷ []) 4) ≡ (1, 0)
-  pub no_servers_freed : (given : Lists) → plan.answer_of (plan no_servers [] (lent given)) ≡ Accepted 0
+  pub no_servers_freed : (given : Lists) → plan.answer_of (plan no_servers [] (lent given)) ≡ Ok 0
   pub no_servers_lists : (given : Lists) (list : PlanList) → after (output list) (plan no_servers [] (lent given)) (given list) ≡ given list
 
 -- The room without servers, and its plan, whatever the lengths of the lists.

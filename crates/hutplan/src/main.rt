@@ -5,43 +5,20 @@ ghost use Rattle.std.specs.Prelude.{◌≡◌, ◌≤◌, length, take};
 ghost use Rattle.io.specs.Counts.{IsPrefixLen};
 ghost use Rattle.deals.specs.Plan.{lists, lent, most_lent};
 ghost use Rattle.demands.specs.Text.{most_lines};
-ghost use Rattle.demands.specs.Reading.{held_reading};
 ghost use Rattle.print.specs.Line.{Put};
 ghost use Rattle.rooms.specs.Table.{most_words};
-ghost use Rattle.hutplan.specs.Input.{most_bytes, FedPiece, ReadText};
+ghost use Rattle.hutplan.specs.Input.{most_bytes, ReadText};
 ghost use Rattle.hutplan.specs.Printed.{most_text, table_text, sheet_text, input_text, Lent};
 
-use deals::Planned;
 use demands::{DECIDING_DEMANDS, DemandReading};
-use rooms::{MOST_WORDS, SheetAnswer};
+use print::Lists;
+use rooms::MOST_WORDS;
 use std::io::{Read, Write};
 use std::rt::Files;
 use std::{fs, io};
 
 // The most bytes of a print: 27 of the first line, 26 of each server's and 69 of each cord's.
 const MOST_TEXT: usize = 83_995;
-
-// What one read of standard input leaves: the reading, and whether there may be more to read.
-#[derive(Clone, Copy)]
-struct Turn {
-    reading: DemandReading,
-    more: bool,
-}
-
-// Reads until the buffer is full, the input ends or a read fails; how many bytes that put at its front.
-fn read_full<R: Read>(input: &mut R, buffer: &mut [u8]) -> usize
-    ensures counts { IsPrefixLen result buffer.new }
-{
-    let mut done = 0usize;
-    while done < buffer.len() {
-        match input.read(&mut buffer[done..]) {
-            Ok(0) => break,
-            Ok(count) => done += count,
-            Err(_) => break,
-        }
-    }
-    done
-}
 
 // The file's bytes, at most 32,768, at the front of the buffer; how many. A missing file is empty.
 fn read_sheet<R: Files>(rt: &R, sheet: &mut [u8]) -> usize
@@ -51,30 +28,7 @@ fn read_sheet<R: Files>(rt: &R, sheet: &mut [u8]) -> usize
     let Ok(mut file) = fs::open(rt, "room.bin") else {
         return 0;
     };
-    read_full(&mut file, sheet)
-}
-
-// One piece of standard input. No more is asked for once the last line that counts is read.
-fn read_piece<R: Read>(input: &mut R, reading: DemandReading, list: &mut [u32]) -> Turn
-    ensures fed { FedPiece (held_reading reading list.old) (held_reading result.reading list.new) }
-{
-    let mut piece = [0u8; 4096];
-    // A read that fails is the end of the input.
-    let count = match input.read(&mut piece) {
-        Ok(count) => count,
-        Err(_) => 0,
-    };
-    if count == 0 {
-        return Turn {
-            reading,
-            more: false,
-        };
-    }
-    let next = reading.feed(&piece[..count], list);
-    Turn {
-        reading: next,
-        more: !next.is_full(),
-    }
+    inputs::read_full(&mut file, sheet)
 }
 
 // The demands of standard input, at the front of the list; how many.
@@ -84,11 +38,14 @@ fn read_demands<R: Read>(input: &mut R, list: &mut [u32]) -> usize
     ensures counts { IsPrefixLen result list.new }
 {
     let mut reading = DemandReading::start();
+    let mut piece = [0u8; 4096];
     // A loop has to end, and nothing says that the input does: no run uses up so many turns.
     for _ in 0..u64::MAX {
-        let turn = read_piece(input, reading, list);
-        reading = turn.reading;
-        if !turn.more {
+        // A read that fails is the end of the input.
+        let count = input.read(&mut piece).unwrap_or(0);
+        reading = reading.feed(&piece[..count], list);
+        // No more is asked for once the last line that counts is read.
+        if count == 0 || reading.is_full() {
             break;
         }
     }
@@ -110,10 +67,17 @@ fn print_table(
         (table_text table.now demands.now) }
     ensures counts { IsPrefixLen result buffer.new }
 {
-    let planned = plans::plan(table, demands, grants, caps, headroom, held);
-    match planned {
-        Planned::Accepted(freed) => print::plan(freed, table, caps, grants, headroom, held, buffer),
-        Planned::Refused(refusal) => print::refusal(refusal.number(), refusal.place(), buffer),
+    match plans::plan(table, demands, grants, caps, headroom, held) {
+        Ok(freed) => {
+            let lists = Lists {
+                caps,
+                grants,
+                headroom,
+                held,
+            };
+            print::plan(freed, table, lists, buffer)
+        }
+        Err(refusal) => print::refusal(refusal, buffer),
     }
 }
 
@@ -123,12 +87,9 @@ fn print_sheet(sheet: &[u8], demands: &[u32], table: &mut [u32], buffer: &mut [u
     ensures printed { take result buffer.new ≡ sheet_text sheet.now demands.now }
     ensures counts { IsPrefixLen result buffer.new }
 {
-    let answer = rooms::read(sheet, table);
-    let count = match answer {
-        SheetAnswer::Accepted(count) => count,
-        SheetAnswer::Refused(refusal) => {
-            return print::refusal(refusal.number(), refusal.place(), buffer);
-        }
+    let count = match rooms::read(sheet, table) {
+        Ok(count) => count,
+        Err(refusal) => return print::refusal(refusal, buffer),
     };
     let mut grants = [0u32; 1024];
     let mut caps = [0u32; 512];
@@ -146,6 +107,7 @@ fn print_sheet(sheet: &[u8], demands: &[u32], table: &mut [u32], buffer: &mut [u
 }
 
 // The print of what was read: so many bytes at the front of the sheet, and so many demands at the front of their list.
+// By hand: the counts stand beside the lists, since `main`, which has no clause, is not to say how much of them counts.
 fn print_input(
     sheet: &[u8],
     bytes: usize,

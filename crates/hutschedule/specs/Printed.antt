@@ -1,10 +1,9 @@
 -- What `hutschedule` writes, by the text of its standard input.
-use Rattle.std.specs.Prelude.{◌≡◌, Bool, true, false, List, ℕ, ◌≤◌, length, take}
+use Rattle.std.specs.Prelude.{◌≡◌, Bool, true, false, List, ℕ, ◌≤◌, length, take, Result, Ok, Err}
 use Rattle.numbers.specs.Sheet.{bytes_of}
 use Rattle.print.specs.Line.{refused_line}
 use Rattle.outcomes.specs.Outcome.{accepted, refused}
 use Rattle.schedules.specs.Schedule.{ScheduleOutcome, most_schedule_words, schedule_refusal_number, schedule_refusal_place, scheduling}
-use Rattle.hutschedule.specs.declared.Output.{Output}
 
 -- The most bytes of standard input that are read: 514 lines of 15 bytes. The first 513 lines decide (`FirstBytesDecide`).
 abbrev pub most_input : ℕ
@@ -28,9 +27,15 @@ print_of (refused refusal) = record { refused = true; bytes = refused_line (sche
 unfoldable pub printed : List ℕ → Print
 printed text = print_of (scheduling text most_schedule_words)
 
--- What an output says is written, with the buffer that it speaks of.
-abbrev pub at : Output → List ℕ → Print
-at output buffer = record { refused = output.refused; bytes = take output.length buffer }
+-- What an answer says is written, with the buffer that it speaks of: so many bytes from its front.
+abbrev pub at : Result ℕ ℕ → List ℕ → Print
+at (Ok count) buffer = record { refused = false; bytes = take count buffer }
+at (Err count) buffer = record { refused = true; bytes = take count buffer }
+
+-- How many bytes that is.
+abbrev pub count_of : Result ℕ ℕ → ℕ
+count_of (Ok count) = count
+count_of (Err count) = count
 
 -- What `hutschedule` works in: space for 7,710 bytes of standard input, for the words of any table without servers and for all that
 -- is written.

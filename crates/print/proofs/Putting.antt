@@ -4,11 +4,10 @@ use mathlib.Core.Bool.{Bool, true, false}
 use mathlib.Core.List.{List, [], ◌∷◌, ◌++◌, append_assoc, append-nil}
 use Prim.Native.Nat.{ℕ, zero, suc, ◌+◌, ◌-◌, ◌≤◌, ◌<◌, min}
 use native.Mathlib.Omega.{arith}
-use native.Mathlib.Numerals.{add-one}
 use borrow.Author.Tests.{leb-true, leb-false}
 use lib.Dec.{leb}
-use lib.ListN.{length, get_or, set, take, drop, length-set, length-append, take-append-drop}
-use lib.Seq.{sets, length-sets, set_out, take-suc, take_all, take-length, length-take-le}
+use lib.ListN.{length, take, drop, length-append}
+use lib.Seq.{sets, length-sets, set_out, take-length, length-take-le}
 use Rattle.figures.proofs.Stores.{sets_nil, sets_cons, sets-append, sets_all, take-sets, sets_in_front}
 use Rattle.io.specs.Counts.{IsPrefixLen}
 use Rattle.print.specs.Line.{Put}

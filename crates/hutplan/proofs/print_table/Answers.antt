@@ -1,31 +1,24 @@
 -- `print_table` meets its contract: what is printed of each answer of Plan is what the definition gives.
-use Rattle.hutplan.proofs.Prints.{RoomText, table_refused, table_accepted}
-use Rattle.deals.specs.Plan.{Lists, lists}
+use Rattle.deals.specs.Plan.{lists}
 use Rattle.print.proofs.Putting.{put_as}
+use Rattle.hutplan.proofs.Prints.{RoomText, table_refused, table_accepted}
 use Rattle.hutplan.proofs.print_table.Goals as goal
+use Rattle.hutplan.proofs.print_table.Goals.{In-Ok}
 
-pub plan-requires : goal.plan-requires
-plan-requires c =
-    let given : Lists = lists c.args.grants.now c.args.caps.now c.args.headroom.now c.args.held.now in
-    let left : Lists = lists c.plan-planned.new.grants c.plan-planned.new.caps c.plan-planned.new.headroom c.plan-planned.new.held in
-    let room-text : RoomText c.args.table.now c.args.demands.now c.in-Accepted.freed left = table_accepted c.args.table.now c.args.demands.now given c.requires.sizes left c.in-Accepted.is c.plan-planned.ensures.done.answer_is c.plan-planned.ensures.done.lists_are in
-    record { good = room-text.good_table }
+room_text : (c : In-Ok) → RoomText c.args.table.now c.args.demands.now c.in-Ok.freed (lists c.plan.new.grants c.plan.new.caps c.plan.new.headroom c.plan.new.held)
+room_text c =
+    table_accepted c.args.table.now c.args.demands.now (lists c.args.grants.now c.args.caps.now c.args.headroom.now c.args.held.now) c.requires.sizes _
+    c.in-Ok.ensures.done.answer_is c.in-Ok.ensures.done.lists_are
 
-pub returns-in-Accepted : goal.returns-in-Accepted
-returns-in-Accepted c =
-    let given : Lists = lists c.args.grants.now c.args.caps.now c.args.headroom.now c.args.held.now in
-    let left : Lists = lists c.plan-planned.new.grants c.plan-planned.new.caps c.plan-planned.new.headroom c.plan-planned.new.held in
-    let room-text : RoomText c.args.table.now c.args.demands.now c.in-Accepted.freed left = table_accepted c.args.table.now c.args.demands.now given c.requires.sizes left c.in-Accepted.is c.plan-planned.ensures.done.answer_is c.plan-planned.ensures.done.lists_are in
-    record {
-      put = put_as room-text.text (c.plan.ensures.put room-text.good_table.value room-text.good_table.next room-text.good_table.is);
-      counts = c.plan.ensures.counts;
-    }
+pub plan-requires-in-Ok : goal.plan-requires-in-Ok
+plan-requires-in-Ok c = record { good = (room_text (goal.at.plan-requires-in-Ok c).In-Ok).good_table }
 
-pub returns-in-Refused : goal.returns-in-Refused
-returns-in-Refused c =
-    let given : Lists = lists c.args.grants.now c.args.caps.now c.args.headroom.now c.args.held.now in
-    let is = table_refused c.args.table.now c.args.demands.now given c.requires.sizes c.in-Refused.is c.plan-planned.ensures.done.answer_is in
-    record {
-      put = rw (c.number.ensures.result, c.place.ensures.result, ← is) at c.refusal.ensures.put;
-      counts = c.refusal.ensures.counts;
-    }
+pub returns-in-Ok-clause-put : goal.returns-in-Ok-clause-put
+returns-in-Ok-clause-put c =
+    let text = room_text (goal.at.returns-in-Ok-clause-put c).In-Ok in
+    put_as text.text (c.plan-in-Ok.ensures.put text.good_table.value text.good_table.next text.good_table.is)
+
+pub returns-in-Err-clause-put : goal.returns-in-Err-clause-put
+returns-in-Err-clause-put c =
+    let is = table_refused c.args.table.now c.args.demands.now (lists c.args.grants.now c.args.caps.now c.args.headroom.now c.args.held.now) c.requires.sizes c.in-Err.ensures.done.answer_is in
+    rw (← is) at c.refusal.ensures.put

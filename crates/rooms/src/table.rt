@@ -73,47 +73,6 @@ fn check_nodes(
     Ok((0, j))
 }
 
-// The cord at i, and its share.
-fn check_cord(
-    w: &[u32],
-    i: usize,
-    scale: u32,
-    node_count: u32,
-) -> Result<(u32, usize), SheetRefusal>
-    ensures result { result ≡ told share_of (cord scale node_count w.now i) }
-{
-    let (_, at_share) = check_word(w, i, 1, node_count)?;
-    check_word(w, at_share, 0, scale)
-}
-
-// So many cords from i on, and the sum of their shares. Each good cord's low is credited to its node in `sums`.
-fn check_cords(
-    w: &[u32],
-    i: usize,
-    scale: u32,
-    node_count: u32,
-    count: u32,
-    least: u32,
-    sums: &mut [u64],
-) -> Result<(u32, usize), SheetRefusal>
-    requires in_range { IsScale scale × (count ≤ most_server_cords) × (least ≤ most_watts) }
-    requires sums_fit { (node_count ≤ length sums.old) × (sum node_count (at sums.old) + most_watts * count < 2 ^ 63) }
-    ensures result { result ≡ told share_sum (cords scale node_count count w.now i) }
-    ensures credited { LowsCredited (cords scale node_count count w.now i) (credited_cords scale least) node_count
-        (most_watts * count) sums.old sums.new }
-{
-    let mut sum = 0;
-    let mut j = i;
-    for _ in 0..count {
-        let (share, next) = check_cord(w, j, scale, node_count)?;
-        let low = carried_by(share, least, scale);
-        credit(sums, w[j] as usize, u64::from(low));
-        sum += share;
-        j = next;
-    }
-    Ok((sum, j))
-}
-
 // The least and the greatest of a server, from i on; the least is told.
 fn check_range(w: &[u32], i: usize) -> Result<(u32, usize), SheetRefusal>
     ensures result { result ≡ told least_of (range w.now i) }
@@ -126,79 +85,121 @@ fn check_range(w: &[u32], i: usize) -> Result<(u32, usize), SheetRefusal>
     Ok((least, next))
 }
 
-// The count of a server's cords, and the cords, from i on; `start` is the index of the server's rank.
-fn check_load(
-    w: &[u32],
-    i: usize,
+// What the cords of a room are bounded by: its scale, which the shares of a server make up, and its count of nodes.
+#[derive(Clone, Copy)]
+struct Bounds {
     scale: u32,
     node_count: u32,
-    before: u32,
-    start: usize,
-    least: u32,
-    sums: &mut [u64],
-) -> Result<(u32, usize), SheetRefusal>
-    requires in_range { IsScale scale × (before ≤ most_cords) × (least ≤ most_watts) }
-    requires sums_fit { (node_count ≤ length sums.old) × (sum node_count (at sums.old) + most_server_cords * most_watts < 2 ^ 63) }
-    ensures result { result ≡ told length (load scale node_count before start w.now i) }
-    ensures credited { LowsCredited (load scale node_count before start w.now i) (credited_cords scale least) node_count
-        (most_server_cords * most_watts) sums.old sums.new }
-{
-    let (count, at_cords) = check_word(
-        w,
-        i,
-        1,
-        (MOST_SERVER_CORDS as u32).min(MOST_CORDS as u32 - before),
-    )?;
-    let (shares, next) = check_cords(w, at_cords, scale, node_count, count, least, sums)?;
-    if shares != scale {
-        return Err(SheetRefusal::SharesNotWhole(start));
-    }
-    Ok((count, next))
+    ghost scaled: { IsScale scale },
 }
 
-// The server at i, and the count of its cords; the room has `before` cords so far.
-fn check_server(
-    w: &[u32],
-    i: usize,
-    scale: u32,
-    node_count: u32,
-    before: u32,
-    sums: &mut [u64],
-) -> Result<(u32, usize), SheetRefusal>
-    requires in_range { IsScale scale × (before ≤ most_cords) × (node_count ≤ length sums.old)
-        × (sum node_count (at sums.old) + most_server_cords * most_watts < 2 ^ 63) }
-    ensures result { result ≡ told cord_count (server scale node_count before w.now i) }
-    ensures credited { LowsCredited (server scale node_count before w.now i) (credited_server scale) node_count
-        (most_server_cords * most_watts) sums.old sums.new }
-{
-    let (_, at_range) = check_word(w, i, 1, u32::from(HIGHEST_RANK))?;
-    let (least, at_load) = check_range(w, at_range)?;
-    check_load(w, at_load, scale, node_count, before, i, least, sums)
-}
-
-// So many servers from i on, and the count of all their cords.
-fn check_servers(
-    w: &[u32],
-    i: usize,
-    scale: u32,
-    node_count: u32,
-    count: u32,
-    sums: &mut [u64],
-) -> Result<(u32, usize), SheetRefusal>
-    requires in_range { IsScale scale × (node_count ≤ length sums.old)
-        × (sum node_count (at sums.old) + most_server_cords * most_watts * count < 2 ^ 63) }
-    ensures result { result ≡ told (total cord_count) (servers scale node_count count 0 w.now i) }
-    ensures credited { LowsCredited (servers scale node_count count 0 w.now i) (credited_servers scale) node_count
-        (most_server_cords * most_watts * count) sums.old sums.new }
-{
-    let mut before = 0;
-    let mut j = i;
-    for _ in 0..count {
-        let (cords, next) = check_server(w, j, scale, node_count, before, sums)?;
-        before += cords;
-        j = next;
+impl Bounds {
+    // The cord at i, and its share.
+    fn check_cord(self, w: &[u32], i: usize) -> Result<(u32, usize), SheetRefusal>
+        ensures result { result ≡ told share_of (cord self.scale self.node_count w.now i) }
+    {
+        let (_, at_share) = check_word(w, i, 1, self.node_count)?;
+        check_word(w, at_share, 0, self.scale)
     }
-    Ok((before, j))
+
+    // So many cords from i on, and the sum of their shares. Each good cord's low is credited to its node in `sums`.
+    fn check_cords(
+        self,
+        w: &[u32],
+        i: usize,
+        count: u32,
+        least: u32,
+        sums: &mut [u64],
+    ) -> Result<(u32, usize), SheetRefusal>
+        requires in_range { (count ≤ most_server_cords) × (least ≤ most_watts) }
+        requires sums_fit { (self.node_count ≤ length sums.old) × (sum self.node_count (at sums.old) + most_watts * count < 2 ^ 63) }
+        ensures result { result ≡ told share_sum (cords self.scale self.node_count count w.now i) }
+        ensures credited { LowsCredited (cords self.scale self.node_count count w.now i) (credited_cords self.scale least) self.node_count
+            (most_watts * count) sums.old sums.new }
+    {
+        let mut sum = 0;
+        let mut j = i;
+        for _ in 0..count {
+            let (share, next) = self.check_cord(w, j)?;
+            let low = carried_by(share, least, self.scale);
+            credit(sums, w[j] as usize, u64::from(low));
+            sum += share;
+            j = next;
+        }
+        Ok((sum, j))
+    }
+
+    // The count of a server's cords, and the cords, from i on; `start` is the index of the server's rank.
+    fn check_load(
+        self,
+        w: &[u32],
+        i: usize,
+        before: u32,
+        start: usize,
+        least: u32,
+        sums: &mut [u64],
+    ) -> Result<(u32, usize), SheetRefusal>
+        requires in_range { (before ≤ most_cords) × (least ≤ most_watts) }
+        requires sums_fit { (self.node_count ≤ length sums.old) × (sum self.node_count (at sums.old) + most_server_cords * most_watts < 2 ^ 63) }
+        ensures result { result ≡ told length (load self.scale self.node_count before start w.now i) }
+        ensures credited { LowsCredited (load self.scale self.node_count before start w.now i) (credited_cords self.scale least) self.node_count
+            (most_server_cords * most_watts) sums.old sums.new }
+    {
+        let (count, at_cords) = check_word(
+            w,
+            i,
+            1,
+            (MOST_SERVER_CORDS as u32).min(MOST_CORDS as u32 - before),
+        )?;
+        let (shares, next) = self.check_cords(w, at_cords, count, least, sums)?;
+        if shares != self.scale {
+            return Err(SheetRefusal::SharesNotWhole(start));
+        }
+        Ok((count, next))
+    }
+
+    // The server at i, and the count of its cords; the room has `before` cords so far.
+    fn check_server(
+        self,
+        w: &[u32],
+        i: usize,
+        before: u32,
+        sums: &mut [u64],
+    ) -> Result<(u32, usize), SheetRefusal>
+        requires in_range { (before ≤ most_cords) × (self.node_count ≤ length sums.old)
+            × (sum self.node_count (at sums.old) + most_server_cords * most_watts < 2 ^ 63) }
+        ensures result { result ≡ told cord_count (server self.scale self.node_count before w.now i) }
+        ensures credited { LowsCredited (server self.scale self.node_count before w.now i) (credited_server self.scale) self.node_count
+            (most_server_cords * most_watts) sums.old sums.new }
+    {
+        let (_, at_range) = check_word(w, i, 1, u32::from(HIGHEST_RANK))?;
+        let (least, at_load) = check_range(w, at_range)?;
+        self.check_load(w, at_load, before, i, least, sums)
+    }
+
+    // So many servers from i on, and the count of all their cords.
+    fn check_servers(
+        self,
+        w: &[u32],
+        i: usize,
+        count: u32,
+        sums: &mut [u64],
+    ) -> Result<(u32, usize), SheetRefusal>
+        requires in_range { (self.node_count ≤ length sums.old)
+            × (sum self.node_count (at sums.old) + most_server_cords * most_watts * count < 2 ^ 63) }
+        ensures result { result ≡ told (total cord_count) (servers self.scale self.node_count count 0 w.now i) }
+        ensures credited { LowsCredited (servers self.scale self.node_count count 0 w.now i) (credited_servers self.scale) self.node_count
+            (most_server_cords * most_watts * count) sums.old sums.new }
+    {
+        let mut before = 0;
+        let mut j = i;
+        for _ in 0..count {
+            let (cords, next) = self.check_server(w, j, before, sums)?;
+            before += cords;
+            j = next;
+        }
+        Ok((before, j))
+    }
 }
 
 // The whole table, and the count of its cords. The sums, 0 at first, get the lows of the cords on each node.
@@ -213,7 +214,8 @@ pub(crate) fn check_table(w: &[u32], sums: &mut [u64]) -> Result<(u32, usize), S
     let (_, at_servers) = check_nodes(w, first_node, has_percents(version), node_count)?;
     let (server_count, first_server) = check_word(w, at_servers, 0, MOST_SERVERS as u32)?;
     let scale = scale_of(version);
-    let (cords, next) = check_servers(w, first_server, scale, node_count, server_count, sums)?;
+    let bounds = Bounds { scale, node_count };
+    let (cords, next) = bounds.check_servers(w, first_server, server_count, sums)?;
     if next < w.len() {
         return Err(SheetRefusal::WordsLeftOver(next));
     }

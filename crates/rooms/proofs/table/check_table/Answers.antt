@@ -49,13 +49,15 @@ returns-in_err-server_count c =
     (stop _ _ _ _ c.in_err-server_count.ensures.result)))) in
     record { result = passed_on c.from_residual-in_err-server_count.ensures.1 both.0; credited = both.1 }
 
+pub invariant_of-bounds : goal.invariant_of-bounds
+invariant_of-bounds c = record { scaled = rw c.scale_of-scale.ensures.result (form_scale _) }
+
 pub check_servers-requires : goal.check_servers-requires
 check_servers-requires c =
     let node-count_most : c.in_ok-node_count.node_count ≤ most_nodes = word_most _ _ _ _ c.in_ok-node_count.ensures.result in
     let server-count_most : c.in_ok-server_count.server_count ≤ most_servers = word_most _ _ _ _ c.in_ok-server_count.ensures.result in
     record {
       in_range = (
-        rw c.scale_of-scale.ensures.result (form_scale _),
         omega (arith, node-count_most, c.requires.zeros.0),
         omega (arith, server-count_most, sum_zeros c.in_ok-node_count.node_count c.args.sums.now c.requires.zeros.1),
       );

@@ -5,7 +5,7 @@ use Rattle.rooms.specs.Table.{server}
 use Rattle.rooms.proofs.Inversion.{range_is}
 use Rattle.rooms.proofs.Steps.{passed_on, known, stop, pass_known, pass_word, pass_value, last}
 use Rattle.rooms.proofs.CreditTurns.{stopped, server_credits}
-use Rattle.rooms.proofs.table.check_server.Goals as goal
+use Rattle.rooms.proofs.table.Bounds.check_server.Goals as goal
 
 pub returns-in_err-at_range : goal.returns-in_err-at_range
 unfolding server
@@ -24,8 +24,8 @@ check_load-requires c =
     let range = known _ _ c.in_ok-least.ensures.result in
     let ends = range_is _ _ range.got _ range.is in
     record {
-      in_range = (c.requires.in_range.0, c.requires.in_range.1, omega (arith, range.figure, ends.ordered, ends.greatest));
-      sums_fit = (c.requires.in_range.2, c.requires.in_range.3);
+      in_range = (c.requires.in_range.0, omega (arith, range.figure, ends.ordered, ends.greatest));
+      sums_fit = (c.requires.in_range.1, c.requires.in_range.2);
     }
 
 pub returns : goal.returns

@@ -2,7 +2,7 @@
 use Rattle.rooms.specs.Table.{cord}
 use Rattle.rooms.proofs.Steps.{passed_on, stop, pass_word, last}
 use mathlib.Core.Path.{refl}
-use Rattle.rooms.proofs.table.check_cord.Goals as goal
+use Rattle.rooms.proofs.table.Bounds.check_cord.Goals as goal
 
 pub returns-in_err-at_share : goal.returns-in_err-at_share
 unfolding cord

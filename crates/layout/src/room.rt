@@ -97,8 +97,7 @@ pub fn admit(
     if demands.len() != servers {
         return Err(LoadRefusal::DemandCount(servers));
     }
-    let large = first_not_below(TOO_MANY_WATTS, demands);
-    if large < demands.len() {
+    if let Some(large) = first_not_below(TOO_MANY_WATTS, demands) {
         return Err(LoadRefusal::DemandTooLarge(large));
     }
     Ok(Counts {

@@ -173,8 +173,7 @@ pub fn encode_sheet(words: &[u32], sheet: &mut [u8]) -> Result<usize, Unwritten>
     ensures result { result ≡ written words.now (length sheet.old) }
     ensures sheet { sheet.new ≡ after_encode_sheet result words.now sheet.old }
 {
-    let large = first_not_below(FORM_LIMIT, words);
-    if large < words.len() {
+    if let Some(large) = first_not_below(FORM_LIMIT, words) {
         return Err(Unwritten::TooLarge(large));
     }
     // No form is longer than four bytes, so only a sheet with fewer a word can be too short.

@@ -9,22 +9,23 @@ use Rattle.numbers.proofs.SheetLaws.{length-bytes_of≤, forms_below, written_la
 use Rattle.numbers.proofs.encode_sheet.Goals as goal
 use Rattle.numbers.proofs.encode_sheet.Goals.{then-sheet-words+else-sheet-needed, else-sheet-words}
 
-pub returns-then-large-words : goal.returns-then-large-words
-returns-then-large-words c =
+pub returns-in-Some : goal.returns-in-Some
+returns-in-Some c =
+    let found = c.in-Some.ensures.found in
     record {
-      result = ap (λ (k : ℕ). Err (TooLarge k)) c.first_not_below-large.ensures.result ∙ written_large _ _ (omega arith);
+      result = ap (λ (k : ℕ). Err (TooLarge k)) found.0 ∙ written_large _ _ (omega (arith, found));
       sheet = refl;
     }
 
 pub returns-then-sheet-needed : goal.returns-then-sheet-needed
 returns-then-sheet-needed c =
     record {
-      result = ap (λ (k : ℕ). Err (TooShort k)) c.total_size-needed.ensures.result ∙ written_short _ _ (omega (arith, c.first_not_below-large.ensures.result)) (omega arith);
+      result = ap (λ (k : ℕ). Err (TooShort k)) c.total_size-needed.ensures.result ∙ written_short _ _ (omega (arith, c.in_default.ensures.found)) (omega arith);
       sheet = refl;
     }
 
 pub put_all-requires-clause-values : goal.put_all-requires-clause-values
-put_all-requires-clause-values c = forms_below c.args.words.now (omega (arith, c.first_not_below-large.ensures.result))
+put_all-requires-clause-values c = forms_below c.args.words.now (omega (arith, c.in_default.ensures.found))
 
 pub put_all-requires-clause-space : goal.put_all-requires-clause-space
 put_all-requires-clause-space c = elim c.if-sheet-words.branch [
@@ -38,4 +39,4 @@ returns-clause-result c =
       | then-sheet-words+else-sheet-needed w ↦ omega (arith, w.total_size-needed.ensures.result)
       | else-sheet-words w ↦ omega (arith, length-bytes_of≤ c.args.words.now)
     ] in
-    ap (λ (k : ℕ). Ok k) c.put_all.ensures.count ∙ written_whole c.args.words.now _ (omega (arith, c.first_not_below-large.ensures.result)) fits
+    ap (λ (k : ℕ). Ok k) c.put_all.ensures.count ∙ written_whole c.args.words.now _ (omega (arith, c.in_default.ensures.found)) fits

@@ -1,5 +1,5 @@
 -- `admit` meets its contract: the checks are made in the order of the definition's reasons to refuse.
-use mathlib.Core.Path.{◌≡◌}
+use mathlib.Core.Path.{◌≡◌, refl}
 use lib.ListN.{length}
 use Rattle.std.proofs.lemmas.Result.{err_from_is_err_and}
 use Rattle.rooms.specs.Part.{Good}
@@ -25,11 +25,11 @@ returns-then-demands-servers-clause-answer c =
     let at = (goal.at.returns-then-demands-servers-clause-answer c).After-server_count-servers in
     count-told c.args.table.now c.args.demands.now (room at) _ (servers at) c.if-demands-servers.true
 
-pub returns-then-large-demands-clause-answer : goal.returns-then-large-demands-clause-answer
-returns-then-large-demands-clause-answer c =
-    let at = (goal.at.returns-then-large-demands-clause-answer c).After-server_count-servers in
+pub returns-in-Some-clause-answer : goal.returns-in-Some-clause-answer
+returns-in-Some-clause-answer c =
+    let at = (goal.at.returns-in-Some-clause-answer c).After-server_count-servers in
     large_told c.args.table.now c.args.demands.now (room at) (count-passed c.args.table.now c.args.demands.now (room at) _ (servers at) c.if-demands-servers.false) _
-    c.first_not_below-large.ensures.result c.if-large-demands.true
+    c.in-Some.ensures.found.0 c.in-Some.ensures.found.1
 
 pub returns : goal.returns
 returns c =
@@ -37,7 +37,7 @@ returns c =
     let r = room at in
     let told = room_told c.args.table.now c.args.demands.now r
     (all_passed c.args.table.now c.args.demands.now r (count-passed c.args.table.now c.args.demands.now r _ (servers at) c.if-demands-servers.false) _
-    c.first_not_below-large.ensures.result c.if-large-demands.false)
+    refl c.in_default.ensures.found)
     (c.node_count.ensures.count r.value r.next r.is) (servers at)
     (cords-told c.args.table.now c.in_ok-cords.ensures.result r.value r.next r.is) (c.table_scale.ensures.scale r.value r.next r.is) in
     record { few = counts_few (found told); answer = told; lows = c.check_lows.ensures.lows }

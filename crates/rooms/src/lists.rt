@@ -110,7 +110,7 @@ pub fn lay_out_servers(table: &[u32], servers: &mut [[u32; 4]], cords: &mut [[u1
 {
     let mut start = first_server(table);
     let mut first = 0;
-    // By hand: (c) tried `servers.iter_mut()`: what is kept over the loop of a server's cords cannot name the rows that it lends.
+    // By hand: tried `servers.iter_mut()`: what is kept over the loop of a server's cords cannot name the rows that it lends.
     for v in 0..servers.len() {
         let rank = table[start];
         let count = table[start + 3] as usize;

@@ -8,9 +8,10 @@ use Rattle.control.specs.declared.Reading.{Reading}
 use Rattle.control.specs.declared.Reading.TheVariants.{Working, Failed}
 use Rattle.control.specs.declared.Controller.{Controller}
 use Rattle.control.specs.declared.Tally.{Tally}
+use Rattle.control.specs.declared.RefusedStep.{RefusedStep}
 use Rattle.control.specs.declared.StepRefusal.{StepRefusal}
 use Rattle.control.specs.declared.StepRefusal.TheVariants.{BadController, BadReading}
-use Rattle.control.specs.Step.{ac, good_controller, good_reading, difference, lesser, moved, Stepped, refused}
+use Rattle.control.specs.Step.{ac, good_controller, good_reading, difference, lesser, moved}
 
 -- Of two figures the one that is not the lesser.
 abbrev pub greater_figure : Float → Float → Float
@@ -54,7 +55,7 @@ abbrev pub judged_all : JudgedCords → ℕ → List Reading → JudgedCords
 judged_all judged place [] = judged
 judged_all judged place (reading ∷ rest) = judged_all (judged_with judged place reading) (suc place) rest
 
--- The step, once all are judged.
-abbrev pub stepped_by : Controller → JudgedCords → Stepped
+-- The step, once all are judged, by whatever refusals.
+abbrev pub stepped_by : {R : Type 0} → Controller → Result Tally R → Result Controller (RefusedStep R)
 stepped_by c (Ok tally) = Ok (moved_by c tally)
-stepped_by c (Err why) = refused why c
+stepped_by c (Err why) = Err (record { refusal = why; controller = c })

@@ -113,7 +113,7 @@ successor c (error ∷ rest) = moved c (least error rest) (suc (length rest))
 
 -- What a step gives: the controller's successor; or the refusal, beside the controller as it was.
 abbrev pub Stepped : Type 0
-Stepped = Result Controller RefusedStep
+Stepped = Result Controller (RefusedStep StepRefusal)
 
 abbrev pub refused : StepRefusal → Controller → Stepped
 refused why c = Err (record { refusal = why; controller = c })

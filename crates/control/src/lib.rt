@@ -51,8 +51,8 @@ pub enum StepRefusal {
 
 // A step that is turned back: the refusal, beside the controller as it was.
 #[derive(Clone, Copy)]
-pub struct RefusedStep {
-    pub refusal: StepRefusal,
+pub struct RefusedStep<R = StepRefusal> {
+    pub refusal: R,
     pub controller: Controller,
 }
 
@@ -258,9 +258,9 @@ impl Controller {
         Ok(Tally::none())
     }
 
-    // The step, once the controller and its cords are judged. It moves whatever controller it is given: the caller hands over the
-    // judgement of this one.
-    pub fn step_by(self, judged: Result<Tally, StepRefusal>) -> Result<Controller, RefusedStep>
+    // The step, once the controller and its cords are judged, by whatever refusals. It moves whatever controller it is given: the caller
+    // hands over the judgement of this one.
+    pub fn step_by<R>(self, judged: Result<Tally, R>) -> Result<Controller, RefusedStep<R>>
         ensures result { result ≡ stepped_by self judged }
     {
         match judged {

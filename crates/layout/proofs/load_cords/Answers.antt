@@ -11,7 +11,9 @@ pub bounds-table-start : goal.bounds-table-start
 bounds-table-start c = omega (arith, (server-here c.loop-v.invariant c.loop-v-test.true).there)
 
 pub overflow_sub-level : goal.overflow_sub-level
-overflow_sub-level c = omega (arith, (server-here c.loop-v.invariant c.loop-v-test.true).lowest)
+overflow_sub-level c =
+    let standing = server-here c.loop-v.invariant c.loop-v-test.true in
+    omega (arith, standing.lowest, standing.highest)
 
 pub overflow_cast-level : goal.overflow_cast-level
 overflow_cast-level c = omega (arith, (server-here c.loop-v.invariant c.loop-v-test.true).highest)

@@ -1,8 +1,7 @@
 // Judge: what is wrong with a list of grants that somebody else made, by the first deal's wants. It writes to no list.
 #![tactic(auto)]
 
-ghost use Rattle.std.specs.Prelude.{◌≡◌, List, ℕ, suc, ◌≤◌, length};
-ghost use Rattle.rooms.specs.Table.{most_nodes, most_servers, most_cords, most_words};
+ghost use Rattle.std.specs.Prelude.{◌≡◌, List, ℕ, length};
 ghost use Rattle.rooms.specs.Rows.{OfRoom, ServersFit, CordsFit, ScaleIs};
 ghost use Rattle.deals.specs.Judge.{verdict};
 ghost use Rattle.calls.specs.Call.{told_numbers};
@@ -153,40 +152,15 @@ pub fn judge_bytes(table: &[u8], demands: &[u8], grants: &[u8], answer: &mut [u8
     ensures called { JudgeCall table.now demands.now grants.now answer.old result
         answer.new }
 {
-    let mut words = [0u32; DECIDING_WORDS];
-    let mut figures = [0u32; DECIDING_DEMANDS];
-    let mut watts = [0u32; DECIDING_GRANTS];
-    judge_by(
-        table,
-        &mut words,
-        demands,
-        &mut figures,
-        grants,
-        &mut watts,
-        answer,
-    )
-}
-
-// Judge by way of lists of words, which take the first of the table, of the demands and of the grants.
-fn judge_by(
-    table: &[u8],
-    words: &mut [u32],
-    demands: &[u8],
-    figures: &mut [u32],
-    grants: &[u8],
-    watts: &mut [u32],
-    answer: &mut [u8],
-) -> u32
-    requires space { (suc most_words ≤ length words.old) × (suc most_servers ≤ length figures.old) × (suc most_cords ≤ length watts.old) }
-    ensures called { JudgeCall table.now demands.now grants.now answer.old result
-        answer.new }
-{
     if answer.len() < JUDGE_ANSWER_BYTES {
         return 0;
     }
-    let word_count = words::load(table, words);
-    let figure_count = words::load(demands, figures);
-    let watt_count = words::load(grants, watts);
+    let mut words = [0u32; DECIDING_WORDS];
+    let mut figures = [0u32; DECIDING_DEMANDS];
+    let mut watts = [0u32; DECIDING_GRANTS];
+    let word_count = words::load(table, &mut words);
+    let figure_count = words::load(demands, &mut figures);
+    let watt_count = words::load(grants, &mut watts);
     let judged = judge_told(
         &words[..word_count],
         &figures[..figure_count],

@@ -275,10 +275,11 @@ module _ {table demands : List ℕ} {scale v start first level least greatest ne
         }
 
     -- One cord more.
-    pub server-cord : {node place share : ℕ} {lows' wants' ceilings' : List ℕ} → node ≡ at table word → place ≡ v → share ≡ at table (word + 1)
-        → lows' ≡ set lows c (carried scale (at table (word + 1)) least) → wants' ≡ set wants c (carried scale (at table (word + 1)) need)
-        → ceilings' ≡ set ceilings c (carried scale (at table (word + 1)) greatest)
-        → LoadingServer table demands scale v start first level least greatest need count (c + 1) (word + 2) (set cords c (node ∷ place ∷ level ∷ share ∷ [])) lows' wants' ceilings' needed
+    pub server-cord : {node place share low want ceiling : ℕ} → node ≡ at table word → place ≡ v → share ≡ at table (word + 1)
+        → low ≡ carried scale (at table (word + 1)) least → want ≡ carried scale (at table (word + 1)) need
+        → ceiling ≡ carried scale (at table (word + 1)) greatest
+        → LoadingServer table demands scale v start first level least greatest need count (c + 1) (word + 2) (set cords c (node ∷ place ∷ level ∷ share ∷ []))
+        (set lows c low) (set wants c want) (set ceilings c ceiling) needed
     server-cord en ep es el ew et =
         let figures = server.figures in
         let low = carried_as (at table (word + 1)) server.scale_is server.least_is (low_is standing cord ok) in
@@ -297,9 +298,9 @@ module _ {table demands : List ℕ} {scale v start first level least greatest ne
           greatest_is = server.greatest_is;
           need-of = server.need-of;
           figures = record {
-            lows_done = rw el (filled_one _ figures.lows_done cord.within low);
-            wants_done = rw ew (filled_one _ figures.wants_done cord.within want);
-            ceilings_done = rw et (filled_one _ figures.ceilings_done cord.within ceiling);
+            lows_done = filled_one _ figures.lows_done cord.within (el ∙ low);
+            wants_done = filled_one _ figures.wants_done cord.within (ew ∙ want);
+            ceilings_done = filled_one _ figures.ceilings_done cord.within (et ∙ ceiling);
             needs_done = figures.needs_done;
           };
         }

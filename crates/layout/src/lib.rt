@@ -2,11 +2,10 @@
 // Private to Plan: no operation stands here.
 #![tactic(auto)]
 
-ghost use Rattle.std.specs.Prelude.{◌≡◌, ℕ, ◌+◌, ◌≤◌, ◌<◌, min, max, length, set};
+ghost use Rattle.std.specs.Prelude.{◌≡◌, ℕ, ◌+◌, ◌≤◌, ◌<◌, min, max, length};
 ghost use Rattle.figures.specs.Figures.{at, column};
 ghost use Rattle.rooms.specs.Part.{Good};
-ghost use Rattle.rooms.specs.Table.{IsScale, most_watts};
-ghost use Rattle.rooms.specs.Limits.{lows_beneath, carried, checked};
+ghost use Rattle.rooms.specs.Limits.{lows_beneath, checked};
 ghost use Rattle.rooms.specs.Lists.{parents_of, limits_of};
 ghost use Rattle.rooms.specs.Rows.{OfRoom, NodesFit, node_column};
 ghost use Rattle.layout.specs.Lists.{HasLowsBeneath, CordsLent, CordsLaidOut};
@@ -47,29 +46,6 @@ pub fn need_of(demand: u32, least: u32, greatest: u32) -> u32
     demand.max(least).min(greatest)
 }
 
-// What the cord at place c carries of its server's least, need and greatest.
-fn load_cord(
-    c: usize,
-    share: u32,
-    scale: u32,
-    least: u32,
-    need: u32,
-    greatest: u32,
-    lows: &mut [u32],
-    wants: &mut [u32],
-    ceilings: &mut [u32],
-)
-    requires place { (c < length lows.old) × (c < length wants.old) × (c < length ceilings.old) }
-    requires in_range { IsScale scale × (share ≤ scale) × (least ≤ most_watts) × (need ≤ most_watts) × (greatest ≤ most_watts) }
-    ensures loaded { (lows.new ≡ set lows.old c (carried scale share least))
-        × (wants.new ≡ set wants.old c (carried scale share need))
-        × (ceilings.new ≡ set ceilings.old c (carried scale share greatest)) }
-{
-    lows[c] = carried_by(share, least, scale);
-    wants[c] = carried_by(share, need, scale);
-    ceilings[c] = carried_by(share, greatest, scale);
-}
-
 // The rows of a good table's cords, their lows, wants and ceilings, and its servers' needs by the demands, one a server; the wants are
 // those of the first deal. One walk over the table makes them all: no row of a server is kept.
 pub fn load_cords(
@@ -99,9 +75,9 @@ pub fn load_cords(
             let node = table[word] as u16;
             let share = table[word + 1];
             cords[c] = [node, v as u16, level, share as u16];
-            load_cord(
-                c, share, scale, least, need, greatest, lows, wants, ceilings,
-            );
+            lows[c] = carried_by(share, least, scale);
+            wants[c] = carried_by(share, need, scale);
+            ceilings[c] = carried_by(share, greatest, scale);
             word += 2;
         }
         needs[v] = need;

@@ -11,7 +11,9 @@ pub bounds-table-start : goal.bounds-table-start
 bounds-table-start c = omega (arith, (server-here c.loop-v.invariant c.loop-v-test.true).there)
 
 pub overflow_sub-level : goal.overflow_sub-level
-overflow_sub-level c = omega (arith, (server-here c.loop-v.invariant c.loop-v-test.true).lowest)
+overflow_sub-level c =
+    let standing = server-here c.loop-v.invariant c.loop-v-test.true in
+    omega (arith, standing.lowest, standing.highest)
 
 pub overflow_cast-level : goal.overflow_cast-level
 overflow_cast-level c = omega (arith, (server-here c.loop-v.invariant c.loop-v-test.true).highest)
@@ -49,18 +51,34 @@ offset_bounds-cords-c c = omega (arith, (cord_fits c.loop-c.invariant c.loop-c-t
 pub bounds-cords-c : goal.bounds-cords-c
 bounds-cords-c c = (cord_fits c.loop-c.invariant c.loop-c-test.true).in_cords
 
-pub load_cord-requires : goal.load_cord-requires
-load_cord-requires c =
+pub carried_by-requires : goal.carried_by-requires
+carried_by-requires c =
     let fits = cord_fits c.loop-c.invariant c.loop-c-test.true in
-    record {
-      place = (fits.in_lows, fits.in_wants, fits.in_ceilings);
-      in_range = (fits.scaled, fits.share_most, fits.least_most, fits.need_most, fits.greatest_most);
-    }
+    record { in_range = (fits.scaled, fits.share_most, fits.least_most) }
+
+pub bounds-lows-c : goal.bounds-lows-c
+bounds-lows-c c = (cord_fits c.loop-c.invariant c.loop-c-test.true).in_lows
+
+pub carried_by-requires-in-loop-c : goal.carried_by-requires-in-loop-c
+carried_by-requires-in-loop-c c =
+    let fits = cord_fits c.loop-c.invariant c.loop-c-test.true in
+    record { in_range = (fits.scaled, fits.share_most, fits.need_most) }
+
+pub bounds-wants-c : goal.bounds-wants-c
+bounds-wants-c c = (cord_fits c.loop-c.invariant c.loop-c-test.true).in_wants
+
+pub carried_by-requires-in-loop-c-2 : goal.carried_by-requires-in-loop-c-2
+carried_by-requires-in-loop-c-2 c =
+    let fits = cord_fits c.loop-c.invariant c.loop-c-test.true in
+    record { in_range = (fits.scaled, fits.share_most, fits.greatest_most) }
+
+pub bounds-ceilings-c : goal.bounds-ceilings-c
+bounds-ceilings-c c = (cord_fits c.loop-c.invariant c.loop-c-test.true).in_ceilings
 
 pub loop-c-preserved : goal.loop-c-preserved
 loop-c-preserved c =
     server-cord c.loop-c.invariant c.loop-c-test.true refl refl refl
-    c.load_cord.ensures.loaded.0 c.load_cord.ensures.loaded.1 c.load_cord.ensures.loaded.2
+    c.carried_by.ensures.result c.carried_by-in-loop-c.ensures.result c.carried_by-in-loop-c-2.ensures.result
 
 pub bounds-needs-v : goal.bounds-needs-v
 bounds-needs-v c = in_needs c.loop-c.invariant

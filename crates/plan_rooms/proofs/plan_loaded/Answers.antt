@@ -15,7 +15,7 @@ use Rattle.rooms.specs.Lists.{limits_of, levels_of, lows_of}
 use Rattle.rooms.specs.Rows.{node_column}
 use Rattle.deals.specs.SecondDeal.{first_used}
 use Rattle.figures.proofs.Cells.{zeros-front}
-use Rattle.figures.proofs.Fronts.{equal_length, front_length, Lent, lent, lent-zeros, rejoined, lent_length, lent_again, lent_few, lent-front}
+use Rattle.figures.proofs.Fronts.{equal_length, front_length, Lent, lent, lent-zeros, rejoined, lent_again, lent_few, lent-front}
 use Rattle.plan_headroom.specs.Lending.{LendGiven}
 use Rattle.plan_holders.specs.Holding.{HeldLists}
 use Rattle.plan_rooms.specs.Planning.{RoomToDeal, DealtTwice, PlanGiven}
@@ -84,12 +84,6 @@ slice_bounds-cuts-end c = blank-long (nodes_few c.requires.room.given)
 pub slice_bounds-deal_twice-end-10 : goal.slice_bounds-deal_twice-end-10
 slice_bounds-deal_twice-end-10 c = sym (zeros-front most_nodes _ (nodes_few c.requires.room.given))
 
-pub slice_bounds-deal_twice-end-11 : goal.slice_bounds-deal_twice-end-11
-slice_bounds-deal_twice-end-11 c = c.requires.space.0
-
-pub slice_bounds-deal_twice-end-12 : goal.slice_bounds-deal_twice-end-12
-slice_bounds-deal_twice-end-12 c = front_length _ _ c.requires.space.0
-
 pub slice_bounds-deal_twice-end-13 : goal.slice_bounds-deal_twice-end-13
 slice_bounds-deal_twice-end-13 c = caps_long c.requires.room.given
 
@@ -138,24 +132,6 @@ slice_bounds-name_holders-end-5 c =
     let wants_back : List ℕ = c.deal_twice-freed.new.wants in
     let wants_lent : Lent c.args.counts.cords c.args.wants.now wants_back = lent (wants_long c.requires.room.given) c.deal_twice-freed.auto.wants in
     lent-front wants_lent
-
-pub slice_bounds-name_holders-end-6 : goal.slice_bounds-name_holders-end-6
-slice_bounds-name_holders-end-6 c =
-    let grants_back : List ℕ = c.deal_twice-freed.new.grants in
-    let grants_lent : Lent c.args.counts.cords c.args.grants.now grants_back = lent c.requires.space.0 c.deal_twice-freed.auto.grants in
-    lent_few grants_lent
-
-pub slice_bounds-name_holders-end-7 : goal.slice_bounds-name_holders-end-7
-slice_bounds-name_holders-end-7 c =
-    let grants_back : List ℕ = c.deal_twice-freed.new.grants in
-    let grants_lent : Lent c.args.counts.cords c.args.grants.now grants_back = lent c.requires.space.0 c.deal_twice-freed.auto.grants in
-    lent-front grants_lent
-
-pub slice_bounds-name_holders-end-8 : goal.slice_bounds-name_holders-end-8
-slice_bounds-name_holders-end-8 c = c.requires.space.1
-
-pub slice_bounds-name_holders-end-9 : goal.slice_bounds-name_holders-end-9
-slice_bounds-name_holders-end-9 c = front_length _ _ c.requires.space.1
 
 pub name_holders-requires : goal.name_holders-requires
 name_holders-requires c =
@@ -258,12 +234,6 @@ lend-requires c =
         sym (front_length _ _ (lows_long c.requires.room.given)) ∙ lent-front nodes-lent,
       );
     }
-
-pub shape_of-left : goal.shape_of-left
-shape_of-left c =
-    let left_back : List ℕ = c.deal_twice-freed.new.left in
-    let left_lent : Lent c.args.counts.nodes c.args.left.now left_back = lent (spare_long c.requires.room.given) c.deal_twice-freed.auto.left in
-    lent_length {back = c.lend.new.left} (lent (lent_few left_lent) c.lend.auto.left) ∙ lent_length left_lent
 
 pub returns : goal.returns
 returns c =

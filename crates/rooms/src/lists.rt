@@ -31,7 +31,8 @@ pub const CORD_COUNT: usize = 3;
 fn word(table: &[u32], i: usize) -> u32
     ensures result { result ≡ at table.now i }
 {
-    table.get(i).copied().unwrap_or(0)
+    // By hand: the chips' build takes no `get`, whose pointer stands in a pair (chips/portable.awk).
+    if i < table.len() { table[i] } else { 0 }
 }
 
 // A table's scale.
@@ -86,6 +87,7 @@ pub fn lay_out_nodes(table: &[u32], parents: &mut [u16], limits: &mut [u32])
     ensures laid_out { OfRoom table.now (λ r. (parents.new ≡ parents_of r) × (limits.new ≡ limits_of r)) }
 {
     let percents = has_percents(word(table, 0));
+    // By hand: (c) tried `zip(limits)`: what a zip of two lists that are written leaves in them, no proof knows.
     for (m, parent) in parents.iter_mut().enumerate() {
         let i = node_index(percents, m);
         *parent = table[i] as u16;

@@ -43,6 +43,7 @@ fn decode_bytes(sheet: &[u8], at: usize) -> Result<(u32, usize), Fault>
     ensures result { MatchResult result (λ found. Ok found ≡ decoded at (number (drop at sheet.now)))
         (λ fault. Err (record { fault = fault; place = at }) ≡ decoded at (number (drop at sheet.now))) }
 {
+    // By hand: the chips' build takes no `get`, whose pointer stands in a pair (chips/portable.awk).
     if sheet.len() <= at {
         return Err(Fault::CutShort);
     }
@@ -157,15 +158,17 @@ fn put_all(words: &[u32], sheet: &mut [u8]) -> usize
     ensures count { result ≡ length (bytes_of words.now) }
     ensures stored { sheet.new ≡ sets sheet.old 0 (bytes_of words.now) }
 {
-    // Nothing follows the last word.
-    let Some((last, others)) = words.split_last() else {
+    if words.is_empty() {
         return 0;
-    };
+    }
+    // By hand: the chips' build takes no `split_last`, whose pointers stand in pairs (chips/portable.awk).
+    let last = words.len() - 1;
     let mut at = 0;
-    for word in others {
+    for word in &words[..last] {
         at = put_followed(*word, sheet, at);
     }
-    put(*last, sheet, at)
+    // Nothing follows the last word.
+    put(words[last], sheet, at)
 }
 
 // Writes words as numbers to the front of a sheet, and gives the count of bytes. Refused, it leaves the sheet unchanged.

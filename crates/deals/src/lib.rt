@@ -15,7 +15,7 @@ pub mod levels;
 pub mod metrics;
 
 // The lists that a plan is written to.
-#[derive(Clone, Copy, Debug, PartialEq, Eq)]
+#[derive(Clone, Copy, PartialEq, Eq)]
 pub enum PlanList {
     Grants,
     Caps,
@@ -24,7 +24,7 @@ pub enum PlanList {
 }
 
 // How many entries each of the lists has that are lent to Plan.
-#[derive(Clone, Copy, Debug, PartialEq, Eq)]
+#[derive(Clone, Copy, PartialEq, Eq)]
 pub struct Lengths {
     pub grants: usize,
     pub caps: usize,
@@ -34,7 +34,7 @@ pub struct Lengths {
 
 // Why a plan is turned back, and where: the table's refusal, the count of servers, a demand's index, or a list and the length that it
 // needs. A plan that is accepted is answered by its freed watts: `Result<u64, PlanRefusal>`.
-#[derive(Clone, Copy, Debug, PartialEq, Eq)]
+#[derive(Clone, Copy, PartialEq, Eq)]
 pub enum PlanRefusal {
     Table(rooms::SheetRefusal),
     DemandCount(usize),
@@ -84,7 +84,7 @@ impl Refusal for PlanRefusal {
 
 // What is wrong with a list of grants: nothing; a cord, by its place, that has less than its low or more than its want; a node, by its
 // number, whose limit is passed; or a root, by its number, whose tree is short, and the highest rank at which it is.
-#[derive(Clone, Copy, Debug, PartialEq, Eq)]
+#[derive(Clone, Copy, PartialEq, Eq)]
 pub enum Verdict {
     Passes,
     BelowLow(usize),

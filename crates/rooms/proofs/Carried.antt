@@ -1,9 +1,8 @@
 -- What a share carries of a load, over any scale.
-use mathlib.Core.Path.{◌≡◌, sym, ◌∙◌}
-use Prim.Native.Nat.{ℕ, suc, ◌+◌, ◌*◌, ◌-◌, ◌/◌, ◌≤◌, ◌<◌}
-use native.Mathlib.Nat.{mul-le-mul, mul-le-mul_left, mul-le-mul_right, div-lt_iff_lt-mul, mul_comm}
+use Prim.Native.Nat.{ℕ, suc, ◌+◌, ◌*◌, ◌-◌, ◌≤◌, ◌<◌}
+use native.Mathlib.Nat.{mul-le-mul_left, mul-le-mul_right, div-lt_iff_lt-mul, mul_comm}
 use native.Mathlib.Omega.{arith}
-use Rattle.rooms.specs.Table.{Node, IsScale, most_scale, most_watts}
+use Rattle.rooms.specs.Table.{Node}
 use Rattle.rooms.specs.Limits.{limit, carried}
 
 -- A cord carries no more than its grant where its share of the load is within the scale's of the grant.

@@ -1,6 +1,5 @@
 -- `read` meets its contract: its own list takes the words that decide, and just those that are accepted are copied.
-use Rattle.std.proofs.Common.{ℕ, ◌≤◌, length, replicate, suc, sym, ◌∙◌, arith}
-use Rattle.rooms.specs.Table.{most_words}
+use Rattle.std.proofs.Common.{length, sym, ◌∙◌, arith}
 use Rattle.figures.proofs.Fronts.{front_length}
 use Rattle.rooms.proofs.Steps.{passed_on}
 use Rattle.rooms.proofs.Outcomes.{refused_told, refused_done}

@@ -1,10 +1,9 @@
 -- `lay_out_nodes` meets its contract: before each turn both lists have the figures of the nodes passed.
-use Rattle.std.proofs.Common.{◌≡◌, ◌+◌, ◌≤◌, ◌<◌, length, refl, ◌∙◌, arith}
-use Rattle.figures.proofs.Filled.{filled_none, filled_one, filled_all}
+use Rattle.std.proofs.Common.{◌≡◌, length, refl, arith}
+use Rattle.figures.proofs.Filled.{filled_one, filled_all}
 use Rattle.rooms.specs.Limits.{limit, node_at, parent_of}
 use Rattle.rooms.specs.Lists.{parents_of, limits_of}
-use Rattle.rooms.specs.Table.{node_words}
-use Rattle.rooms.specs.Credits.{node_from, NodesRead}
+use Rattle.rooms.specs.Credits.{NodesRead}
 use Rattle.rooms.proofs.NodeWords.{words_two, node_fits, parent_here, limit-here}
 use Rattle.rooms.proofs.Counts.{nodes_there, parents_are, limits_are, alike}
 use Rattle.rooms.proofs.lists.lay_out_nodes.Goals as goal

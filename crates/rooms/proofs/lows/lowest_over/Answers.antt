@@ -4,7 +4,7 @@ use lib.ListN.{get_or}
 use mathlib.Core.Path.{refl, ◌∙◌}
 use native.Mathlib.Omega.{arith}
 use borrow.Author.Rules.{rules}
-use Rattle.rooms.proofs.NodeWords.{words_two, node_fits, parent_here, limit-here}
+use Rattle.rooms.proofs.NodeWords.{parent_here, limit-here}
 use Rattle.rooms.proofs.Gather.{gathered_start, gathered_end, gathered_sums, gathered_most, gathered_turn}
 use Rattle.rooms.proofs.lows.lowest_over.Goals as goal
 

@@ -1,8 +1,7 @@
 -- `check_nodes` tells a row of nodes: after each turn what is left of the row tells the same as the whole did.
 use native.Mathlib.Numerals.{add-one}
-use Rattle.std.proofs.Common.{◌≡◌, ◌+◌, ◌-◌, ◌<◌, sym, ◌∙◌, arith}
-use Rattle.rooms.proofs.Steps.{passed_on, row_start, row_end, row_stop, row_next, nothing-told}
-use borrow.Author.Rules.{rules}
+use Rattle.std.proofs.Common.{◌≡◌, ◌+◌, ◌-◌, sym, ◌∙◌, arith}
+use Rattle.rooms.proofs.Steps.{passed_on, row_end, row_stop, row_next, nothing-told}
 use Rattle.rooms.proofs.table.check_nodes.Goals as goal
 
 pub returns-in_err-next : goal.returns-in_err-next

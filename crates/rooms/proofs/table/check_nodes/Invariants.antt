@@ -1,5 +1,5 @@
-use Prim.Native.Nat.{suc, ◌+◌, ◌-◌, ◌≤◌}
-use Rattle.rooms.specs.Table.{most_nodes, node}
+use Prim.Native.Nat.{suc, ◌+◌, ◌-◌}
+use Rattle.rooms.specs.Table.{node}
 use Rattle.rooms.specs.Told.{nothing}
 use Rattle.rooms.proofs.Steps.{Row}
 use Rattle.rooms.proofs.table.check_nodes.Given as goal

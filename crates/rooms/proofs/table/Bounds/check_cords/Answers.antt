@@ -1,7 +1,7 @@
 -- `check_cords` tells a row of cords and the sum of their shares, and credits their lows.
 use Rattle.std.proofs.Common.{◌≡◌, ◌+◌, ◌-◌, refl, ◌∙◌, arith}
-use Rattle.rooms.proofs.Steps.{passed_on, row_start, row_end, row_stop, row_turn, cord_most}
-use Rattle.rooms.proofs.CreditTurns.{stopped, crediting_start, cords-end, next_cord}
+use Rattle.rooms.proofs.Steps.{passed_on, row_end, row_stop, row_turn, cord_most}
+use Rattle.rooms.proofs.CreditTurns.{stopped, cords-end, next_cord}
 use Rattle.rooms.proofs.table.Bounds.check_cords.Goals as goal
 
 pub returns-in_err-share : goal.returns-in_err-share

@@ -1,5 +1,5 @@
 -- `check_load` tells a server's cords: their count, the cords, and that their shares make the whole; and credits their lows.
-use mathlib.Core.Path.{refl, sym, ◌∙◌}
+use mathlib.Core.Path.{sym, ◌∙◌}
 use Prim.Native.Nat.{◌≤◌}
 use native.Mathlib.Omega.{arith}
 use borrow.Author.Tests.{eq-eqb, ne_eqb}

@@ -1,7 +1,7 @@
 -- `check_servers` tells a row of servers and the count of all their cords, and credits their lows.
 use Rattle.std.proofs.Common.{◌≡◌, ℕ, ◌+◌, ◌-◌, ap, arith}
-use Rattle.rooms.proofs.Steps.{passed_on, row_start, row_end, row_stop, row_turn, server_most}
-use Rattle.rooms.proofs.CreditTurns.{stopped, crediting_start, servers-end, servers_turn}
+use Rattle.rooms.proofs.Steps.{passed_on, row_end, row_stop, row_turn, server_most}
+use Rattle.rooms.proofs.CreditTurns.{stopped, servers-end, servers_turn}
 use Rattle.rooms.proofs.table.Bounds.check_servers.Goals as goal
 
 pub returns-in_err-cords : goal.returns-in_err-cords

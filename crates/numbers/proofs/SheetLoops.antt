@@ -4,9 +4,9 @@ use mathlib.Core.List.{List, [], ◌∷◌, ◌++◌}
 use Prim.Native.Nat.{ℕ, zero, suc, ◌+◌, ◌-◌, ◌*◌, ◌≤◌, ◌<◌}
 use native.Mathlib.Omega.{arith}
 use native.Mathlib.Numerals.{add-one}
-use lib.ListN.{length, get_or, drop, set, length-append, length-drop, length-set, drop_of_length-le}
-use lib.Seq.{sets, length-sets, drop-drop, get_or-append_seam}
-use Rattle.std.proofs.lemmas.List.{get_or_append_left}
+use lib.ListN.{length, get_or, take, drop, set, length-append, length-drop, length-set, drop_of_length-le}
+use lib.Seq.{sets, length-sets, drop-drop}
+use Rattle.std.proofs.lemmas.List.{get_or-take, length-take-le}
 use Rattle.numbers.specs.Number.{Front, good, bad, number, decoded, form}
 use Rattle.numbers.specs.Sheet.{whole, onto, sheet_from, sheet_of, answer, judged, bytes_of}
 use Rattle.figures.specs.Bounds.{AllBelow}
@@ -129,13 +129,18 @@ unfolding bytes_of
 none_written [] sheet e = (refl, refl)
 none_written (w ∷ words) sheet e = absurd (omega arith)
 
--- The words in front of the last, and the last.
-module _ {words : List ℕ} (others : List ℕ) (last : ℕ) (e : words ≡ others ++ (last ∷ [])) where
-  pub other : (i : ℕ) → i < length others → get_or words i 0 ≡ get_or others i 0
-  other i h = ap (λ (l : List ℕ). get_or l i 0) e ∙ get_or_append_left others (last ∷ []) 0 i h
+-- The words in front of the last: one of them, and the end of them.
+module _ (words : List ℕ) {index : ℕ} where
+  pub front_word : index < length (take (length words - 1) words) → (index + 1 < length words) × (get_or (take (length words - 1) words) index 0 ≡ get_or words index 0)
+  front_word h =
+      let l = length-take-le (length words - 1) words (omega arith) in
+      (omega arith, get_or-take (length words - 1) words index 0 (omega arith))
 
-  pub ending : get_or words (length others) 0 ≡ last
-  ending = ap (λ (l : List ℕ). get_or l (length others) 0) e ∙ get_or-append_seam others last [] 0
+  pub front_end : (length words ≡ 0 → ⊥) → index ≤ length (take (length words - 1) words) → length (take (length words - 1) words) ≤ index
+      → (index ≡ length words - 1) × (index < length words)
+  front_end some h k =
+      let l = length-take-le (length words - 1) words (omega arith) in
+      (omega arith, omega arith)
 
 -- The length of the words' bytes from an index on.
 length-bytes_of-drop : (words : List ℕ) (index : ℕ) → index < length words

@@ -39,6 +39,7 @@ pub enum Unwritten {
 const FORM_LIMIT: u32 = 1 << 28;
 
 // The number that starts at a place of the sheet, byte by byte, and the place after it.
+// By hand: the chips' build takes no `get`, whose pointer stands in a pair (chips/portable.awk).
 fn decode_bytes(sheet: &[u8], at: usize) -> Result<(u32, usize), Fault>
     ensures result { MatchResult result (λ found. Ok found ≡ decoded at (number (drop at sheet.now)))
         (λ fault. Err (record { fault = fault; place = at }) ≡ decoded at (number (drop at sheet.now))) }
@@ -157,15 +158,17 @@ fn put_all(words: &[u32], sheet: &mut [u8]) -> usize
     ensures count { result ≡ length (bytes_of words.now) }
     ensures stored { sheet.new ≡ sets sheet.old 0 (bytes_of words.now) }
 {
-    // Nothing follows the last word.
-    let Some((last, others)) = words.split_last() else {
+    if words.is_empty() {
         return 0;
-    };
+    }
+    // By hand: the chips' build takes no `split_last`, whose pointers stand in pairs (chips/portable.awk).
+    let last = words.len() - 1;
     let mut at = 0;
-    for word in others {
+    for word in &words[..last] {
         at = put_followed(*word, sheet, at);
     }
-    put(*last, sheet, at)
+    // Nothing follows the last word.
+    put(words[last], sheet, at)
 }
 
 // Writes words as numbers to the front of a sheet, and gives the count of bytes. Refused, it leaves the sheet unchanged.

@@ -1,13 +1,12 @@
 -- How long a list must be that is lent to Read or Write: one word more than `most_words`, which a table may have, decides every
 -- table. A caller whose own buffers may be of any length may lend such lists in their place.
-use mathlib.Core.Path.{◌≡◌, refl, sym, ap, ap₂, ◌∙◌}
-use mathlib.Core.List.{List, ◌++◌}
+use mathlib.Core.Path.{◌≡◌, refl, sym, ap, ◌∙◌}
+use mathlib.Core.List.{List}
 use Prim.Native.Nat.{ℕ, suc, ◌≤◌, min}
 use native.Mathlib.Omega.{arith}
-use lib.ListN.{length, take, drop}
+use lib.ListN.{length, take}
 use lib.Seq.{sets, length-sets, length-take-le, take_all}
-use Rattle.outcomes.specs.Outcome.{accepted, fitting, after}
-use Rattle.figures.proofs.Stores.{sets-front}
+use Rattle.outcomes.specs.Outcome.{accepted, fitting}
 use Rattle.outcomes.proofs.Outcomes.{fitting_fits}
 use Rattle.outcomes.proofs.Parts.{accepted_went}
 use Rattle.numbers.specs.Sheet.{SheetEnding, whole, sheet_of, bytes_of}
@@ -19,7 +18,7 @@ use Rattle.rooms.specs.declared.SheetRefusal.TheVariants.{OutputTooShort}
 use Rattle.std.specs.Prelude.{Ok}
 use Rattle.rooms.specs.Outcome.{answer_of, if_good, read_words, reading, reading_first, writing}
 use Rattle.rooms.proofs.Reach.{prefix_decides, length_small}
-use Rattle.rooms.proofs.Outcomes.{accepted_done, accepted_told, accepted_is, front-sets, front_size}
+use Rattle.rooms.proofs.Outcomes.{accepted_told, accepted_is, front-sets, front_size}
 
 -- A table that is cut comes to the same, if it is cut no shorter than decides its check.
 table-cut : (output : List ℕ → List ℕ) (table : List ℕ) (entries k : ℕ) → suc most_words ≤ k
@@ -82,29 +81,6 @@ module _ (bytes : List ℕ) (entries : ℕ) where
         counted = length-take-le count list' fits;
         is = o.is ∙ ap accepted (sym (rw s (front-sets list words n) ∙ first));
       }
-
--- What Read has done that copies the front of such a list to the front of its output.
-pub record ReadDone (bytes table list' : List ℕ) (count : ℕ) : Type 0 where
-  pub in_list : count ≤ length list'
-  pub in_table : count ≤ length table
-  pub alike : length (take count table) ≡ length (take count list')
-  pub told : Ok count ≡ answer_of (reading bytes (length table))
-  pub written : take count list' ++ drop count table ≡ after (λ words. words) (reading bytes (length table)) table
-
-pub read_done : (bytes table list : List ℕ) {list' : List ℕ} {count : ℕ} → suc most_words ≤ length list
-    → Ok count ≡ answer_of (reading_first (length list) bytes (length table)) → list' ≡ sets list 0 (words bytes (length table)) → ReadDone bytes table list' count
-read_done bytes table list {list' = list'} {count = count} h d s =
-    let stands = first_stands bytes (length table) list d s in
-    let is : reading bytes (length table) ≡ accepted (take count list') = sym (reading-first bytes (length table) (length list) h) ∙ stands.is in
-    let fits : length (take count list') ≤ length table = reading_fits bytes (length table) is in
-    let done = accepted_done (reading bytes (length table)) table (sets table 0 (take count list')) (take count list') is stands.counted refl in
-    record {
-      in_list = stands.fits;
-      in_table = omega (arith, fits, stands.counted);
-      alike = length-take-le count table (omega (arith, fits, stands.counted)) ∙ sym stands.counted;
-      told = done.0;
-      written = sym (sets-front table (take count list') ∙ ap₂ (λ (l : List ℕ) (n : ℕ). l ++ drop n table) (take_all (length table) (take count list') fits) stands.counted) ∙ done.1;
-    }
 
 -- ---- Write
 

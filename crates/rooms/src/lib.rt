@@ -154,7 +154,8 @@ pub fn read(sheet: &[u8], table: &mut [u32]) -> Result<usize, SheetRefusal>
     // So many words decide, whatever follows them.
     let mut words = [0; DECIDING_WORDS];
     let count = parts::read_words(sheet, &mut words, table.len())?;
-    table[..count].copy_from_slice(&words[..count]);
+    // By hand: the chips' build takes no `copy_from_slice`, whose pointers stand in pairs (chips/portable.awk).
+    figures::copy(&words[..count], table);
     Ok(count)
 }
 

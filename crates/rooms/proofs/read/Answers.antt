@@ -1,9 +1,9 @@
 -- `read` meets its contract: its own list takes the words that decide, and just those that are accepted are copied.
-use Rattle.std.proofs.Common.{length, sym, ◌∙◌, arith}
-use Rattle.figures.proofs.Fronts.{front_length}
+use Rattle.std.proofs.Common.{suc, length, replicate, sym, ◌∙◌, arith}
+use Rattle.rooms.specs.Table.{most_words}
 use Rattle.rooms.proofs.Steps.{passed_on}
-use Rattle.rooms.proofs.Outcomes.{refused_told, refused_done}
-use Rattle.rooms.proofs.Lent.{reading-first, ReadDone, read_done}
+use Rattle.rooms.proofs.Outcomes.{refused_told, refused_done, accepted_done}
+use Rattle.rooms.proofs.Lent.{reading-first, Stands, first_stands}
 use Rattle.rooms.proofs.read.Goals as goal
 use Rattle.rooms.proofs.read.Goals.{In_ok-count}
 
@@ -16,26 +16,18 @@ returns-in_err-count c =
       table = done.1;
     }
 
--- What Read has done.
-read : (c : In_ok-count) → ReadDone c.args.sheet.now c.args.table.now c.read_words.new.words c.in_ok-count.count
-read c = read_done _ _ _ (omega arith) c.in_ok-count.ensures.result c.in_ok-count.ensures.words
-
-pub slice_bounds-copy_from_slice-end : goal.slice_bounds-copy_from_slice-end
-slice_bounds-copy_from_slice-end c = (read (goal.at.slice_bounds-copy_from_slice-end c).In_ok-count).in_table
-
-pub slice_bounds-copy_from_slice-end-2 : goal.slice_bounds-copy_from_slice-end-2
-slice_bounds-copy_from_slice-end-2 c = front_length _ _ (read (goal.at.slice_bounds-copy_from_slice-end-2 c).In_ok-count).in_table
+-- What was read stands at the front of the list.
+stands : (c : In_ok-count) → let args = c.args in Stands args.sheet.now (length args.table.now) (replicate (suc most_words) 0) c.read_words.new.words c.in_ok-count.count
+stands c = first_stands _ _ _ c.in_ok-count.ensures.result c.in_ok-count.ensures.words
 
 pub slice_bounds-words-end : goal.slice_bounds-words-end
-slice_bounds-words-end c = (read (goal.at.slice_bounds-words-end c).In_ok-count).in_list
+slice_bounds-words-end c = (stands (goal.at.slice_bounds-words-end c).In_ok-count).fits
 
-pub slice_bounds-copy_from_slice-end-3 : goal.slice_bounds-copy_from_slice-end-3
-slice_bounds-copy_from_slice-end-3 c = front_length _ _ (read (goal.at.slice_bounds-copy_from_slice-end-3 c).In_ok-count).in_list
-
-pub copy_from_slice-requires : goal.copy_from_slice-requires
-copy_from_slice-requires c = (read (goal.at.copy_from_slice-requires c).In_ok-count).alike
+pub slice_bounds-copy-end : goal.slice_bounds-copy-end
+slice_bounds-copy-end c = sym (stands (goal.at.slice_bounds-copy-end c).In_ok-count).counted
 
 pub returns : goal.returns
 returns c =
-    let done = read (goal.at.returns c).In_ok-count in
-    record { result = done.told; table = rw c.copy_from_slice.ensures.after done.written }
+    let s = stands (goal.at.returns c).In_ok-count in
+    let both = accepted_done _ _ _ _ (sym (reading-first _ _ _ (omega arith)) ∙ s.is) s.counted c.copy.ensures.copied in
+    record { result = both.0; table = both.1 }

@@ -15,8 +15,7 @@ pub mod raise;
 // if that is less.
 pub fn usable_of(cords: &[CordRow], grants: &[u32], usable: &mut [u32], scale: u32)
     requires lists { ServerLists scale cords.now usable.old (length grants.now) }
-    ensures usable { usable.new ≡ usable_from scale (shares_in cords.now) (servers_in cords.now)
-        usable.old grants.now }
+    ensures usable { usable.new ≡ usable_from scale (shares_in cords.now) (servers_in cords.now) usable.old grants.now }
 {
     for (c, cord) in cords.iter().enumerate() {
         let share = u64::from(cord.share);
@@ -51,12 +50,9 @@ pub fn reclaim(
 ) -> u64
     requires lists { ServerLists scale cords.now usable.now (length grants.now) × (length starts.old ≡ length cords.now)
         × (length wants.old ≡ length cords.now) }
-    ensures freed { result ≡ freed_from scale (shares_in cords.now) (servers_in cords.now)
-        usable.now grants.now }
-    ensures starts { starts.new ≡ used_from scale (shares_in cords.now) (servers_in cords.now)
-        usable.now }
-    ensures wants { wants.new ≡ wants_from (used_from scale (shares_in cords.now)
-        (servers_in cords.now) usable.now) grants.now wants.old }
+    ensures freed { result ≡ freed_from scale (shares_in cords.now) (servers_in cords.now) usable.now grants.now }
+    ensures starts { starts.new ≡ used_from scale (shares_in cords.now) (servers_in cords.now) usable.now }
+    ensures wants { wants.new ≡ wants_from (used_from scale (shares_in cords.now) (servers_in cords.now) usable.now) grants.now wants.old }
 {
     let mut freed: u64 = 0;
     for (c, cord) in cords.iter().enumerate() {

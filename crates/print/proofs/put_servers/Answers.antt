@@ -2,8 +2,7 @@
 use borrow.Author.Rules.{rules}
 use native.Mathlib.Omega.{arith}
 use mathlib.Core.Path.{ap, ◌∙◌}
-use mathlib.Core.List.{List, []}
-use Prim.Native.Nat.{ℕ, min}
+use Prim.Native.Nat.{min}
 use lib.Seq.{length-take-le, get_or-take}
 use Rattle.rooms.specs.declared.lists.ServerRow.{ServerRow}
 use Rattle.print.proofs.Turns.{walking_first, walking_next, walked}

@@ -1,5 +1,5 @@
 -- `lay_out_servers` meets its contract: before each turn the rows have the figures of the servers and cords passed.
-use Rattle.std.proofs.Common.{◌<◌, length, arith}
+use Rattle.std.proofs.Common.{arith}
 use Rattle.rooms.proofs.Laying.{laying_start, laying_server, laying_end, cord_fits, row_fits, server-cord, server-end}
 use Rattle.rooms.proofs.lists.lay_out_servers.Goals as goal
 

@@ -1,5 +1,3 @@
-use mathlib.Core.Path.{◌≡◌}
-use lib.ListN.{length}
 use Rattle.rooms.proofs.Laying.{Laying, LayingServer}
 use Rattle.rooms.proofs.lists.lay_out_servers.Given as goal
 

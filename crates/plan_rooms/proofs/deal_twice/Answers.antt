@@ -10,6 +10,7 @@ use Rattle.rooms.specs.Table.{Room, most_nodes, most_cords, most_servers, highes
 use Rattle.rooms.proofs.Accepted.{Accepted, accepted}
 use Rattle.rooms.specs.Lists.{limits_of, levels_of}
 use Rattle.rooms.specs.Rows.{nodes_in, servers_in, levels_in, shares_in}
+use Rattle.rooms.specs.declared.lists.CordRow.{CordRow}
 use Rattle.deals.specs.SecondDeal.{first_grants, first_used, second_deal, second_wants}
 use Rattle.deals.specs.SecondDeal as second
 use Rattle.deals.specs.Levels.{LevelLists, no_cords}
@@ -23,7 +24,7 @@ use Rattle.plan_rooms.proofs.deal_twice.Goals as goal
 use Rattle.plan_rooms.proofs.deal_twice.Goals.{After-reclaim-freed}
 
 -- The room of the lists, and how many nodes, cords and servers it has.
-module _ {parents spare : List ℕ} {cords : List (List ℕ)} {nodes lows wants needed : List ℕ} {scale : ℕ} (some : SomeRoom parents spare cords nodes lows wants needed scale) where
+module _ {parents spare : List ℕ} {cords : List CordRow} {nodes lows wants needed : List ℕ} {scale : ℕ} (some : SomeRoom parents spare cords nodes lows wants needed scale) where
   room_ok : Accepted some.room
   room_ok = accepted some.table some.room some.end some.is
 

@@ -53,7 +53,7 @@ fn deal_twice(
     let n = parents.len();
     let k = nodes.len();
     let v = caps.len();
-    // By hand: std's `copy_from_slice` calls through a function that it is given, which the chips' build does not take (chips/portable.awk).
+    // By hand: std's `copy_from_slice` hands on a pointer beside a length in one value, which the chips' build does not take (chips/portable.awk).
     figures::copy(left, &mut first_left[..n]);
     figures::copy(caps, &mut usable[..v]);
     list_levels(parents, cords, &mut levels, &mut order[..k], &mut actives);

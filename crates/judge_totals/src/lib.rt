@@ -31,6 +31,7 @@ pub struct Faults {
 }
 
 // What is noted on each node: watts, the lowest rank that they are of, and the highest rank that could have more.
+// By hand: no rank is the highest rank in `raised` and 0 in `wanting`, since so the lower and the higher of two are `min` and `max`.
 #[derive(Drop)]
 pub struct Notes {
     pub given: [u64; MOST_NODES],
@@ -45,6 +46,7 @@ impl Notes {
         requires sum_fits { at self.old.given (node - 1) + watts < 2 ^ 64 }
         ensures noted { self.new ≡ noted_on node watts low high self.old }
     {
+        // By hand: 0 is no node in the table itself, and a list of Options would take twice the memory.
         if node == 0 {
             return;
         }
@@ -90,6 +92,7 @@ pub fn note_cords(
         let least = table[start + 1];
         let need = need_of(*demand, least, table[start + 2]);
         let count = table[start + 3] as usize;
+        // By hand: the chips' build takes no `chunks_exact`, whose pointers stand in pairs (chips/portable.awk).
         let mut word = start + 4;
         for c in first..first + count {
             let share = table[word + 1];

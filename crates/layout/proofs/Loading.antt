@@ -117,23 +117,6 @@ module _ {table demands : List ℕ} {scale v start first c : ℕ} {cords : List 
   servers_size : length demands ≡ length loading.room.servers
   servers_size = loading.demands_size ∙ served loading.laying ∙ ap (λ (x : Room). length x.servers) of_laying
 
-  -- The lists are as long as those that were lent.
-  module _ {cords₀ : List (List ℕ)} {lows₀ wants₀ ceilings₀ needed₀ : List ℕ} (lent : CordsLent table demands cords₀ lows₀ wants₀ ceilings₀ needed₀) where
-    pub cords_kept : length cords ≡ length cords₀
-    cords_kept = corded loading.laying ∙ sym (lent.cords-fit loading.laying.room loading.laying.end loading.laying.read)
-
-    pub lows_kept : length lows ≡ length lows₀
-    lows_kept = loading.figures.lows_done.size_is ∙ sym (lent.lows_fit loading.room loading.end loading.read)
-
-    pub wants_kept : length wants ≡ length wants₀
-    wants_kept = loading.figures.wants_done.size_is ∙ sym (lent.wants_fit loading.room loading.end loading.read)
-
-    pub ceilings_kept : length ceilings ≡ length ceilings₀
-    ceilings_kept = loading.figures.ceilings_done.size_is ∙ sym (lent.ceilings_fit loading.room loading.end loading.read)
-
-    pub needs_kept : length needed ≡ length needed₀
-    needs_kept = loading.figures.needs_done.size_is ∙ sym (lent.needs_fit loading.room loading.end loading.read)
-
   -- All servers are passed.
   pub loading-end : length demands ≤ v → first ≤ c → OfRoom table (λ r. CordsLaidOut r demands cords lows wants ceilings needed)
   loading-end h f r end is =

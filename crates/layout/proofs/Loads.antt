@@ -259,10 +259,6 @@ module _ {table demands : List ℕ} {counts : Counts} (f : RoomFound table deman
   pub lists-loaded : (r : Room) → loading table demands ≡ accepted r → LoadedAs r
   lists-loaded r e = subst LoadedAs (accepted_is (sym f.accepts ∙ e)) own
 
--- Where loading is refused, no room is accepted.
-pub none_loaded : (table demands : List ℕ) {q : LoadRefusal} → Err q ≡ loaded_of (loading table demands) → (r : Room) → loading table demands ≡ accepted r → ⊥
-none_loaded table demands d r e = let h = d ∙ ap loaded_of e in cc
-
 -- ---- A table and demands in bytes
 
 -- Demands that are cut after one more than there are servers still differ from them in count.

@@ -22,6 +22,7 @@ fn spare_limits(beneath: &[u64], limits: &mut [u32])
     ensures spared { (n : ℕ) → n < length limits.old
         → at limits.new n + at beneath.now n ≡ at limits.old n }
 {
+    // By hand: the chips' build takes no `zip`, whose pointers stand in pairs (chips/portable.awk).
     for (n, limit) in limits.iter_mut().enumerate() {
         *limit -= beneath[n] as u32;
     }
@@ -70,6 +71,7 @@ pub fn load_cords(
         let greatest = table[start + 2];
         let need = need_of(*demand, least, greatest);
         let count = table[start + 3] as usize;
+        // By hand: the chips' build takes no `chunks_exact`, whose pointers stand in pairs (chips/portable.awk).
         let mut word = start + 4;
         for c in first..first + count {
             let node = table[word] as u16;
@@ -91,6 +93,7 @@ pub fn list_nodes(cords: &[[u16; 4]], nodes: &mut [u16])
     requires size { length nodes.old ≡ length cords.now }
     ensures listed { nodes.new ≡ column node_column cords.now }
 {
+    // By hand: the chips' build takes no `zip`, whose pointers stand in pairs (chips/portable.awk).
     for (c, node) in nodes.iter_mut().enumerate() {
         *node = cords[c][NODE];
     }

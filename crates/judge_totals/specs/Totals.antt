@@ -73,7 +73,8 @@ Unnoted count = AllNoted count (λ j n. 0) (λ j n. 0)
 -- The cords' own notes on their nodes.
 abbrev pub CordsNoted : (nodes levels lows wants grants : List ℕ) → Notes → Type 0
 CordsNoted nodes levels lows wants grants =
-    AllNoted most_nodes (λ j. on_node nodes (from_level levels j (over_low lows grants))) (λ j. on_node nodes (from_level levels j (over_low lows wants)))
+    AllNoted most_nodes (λ j. on_node nodes (from_level levels j (over_low lows grants)))
+    (λ j. on_node nodes (from_level levels j (over_low lows wants)))
 
 -- What the pass over a room's cords finds and leaves: the first cord below its low; if there is none, the first above its want; and if
 -- there is none either, the notes of all.

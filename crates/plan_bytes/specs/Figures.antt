@@ -20,4 +20,5 @@ freed_of (Err refusal) = Err refusal
 -- The answer to an outcome, and, where it is accepted, what it writes at the fronts of the lists.
 pub record FiguresLeft (outcome : PlanOutcome) (planned : Result PlannedFigures PlanRefusal) (words : Lists) : Type 0 where
   pub answer_is : freed_of planned ≡ answer_of outcome
-  pub lists_are : IfOk planned (λ figures. (list : PlanList) → Front (count figures.cords figures.servers list) (words list) (written (output list) outcome))
+  pub lists_are : IfOk planned (λ figures. (list : PlanList)
+      → Front (count figures.cords figures.servers list) (words list) (written (output list) outcome))

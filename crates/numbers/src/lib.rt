@@ -39,11 +39,11 @@ pub enum Unwritten {
 const FORM_LIMIT: u32 = 1 << 28;
 
 // The number that starts at a place of the sheet, byte by byte, and the place after it.
+// By hand: the chips' build takes no `get`, whose pointer stands in a pair (chips/portable.awk).
 fn decode_bytes(sheet: &[u8], at: usize) -> Result<(u32, usize), Fault>
     ensures result { MatchResult result (λ found. Ok found ≡ decoded at (number (drop at sheet.now)))
         (λ fault. Err (record { fault = fault; place = at }) ≡ decoded at (number (drop at sheet.now))) }
 {
-    // By hand: the chips' build takes no `get`, whose pointer stands in a pair (chips/portable.awk).
     if sheet.len() <= at {
         return Err(Fault::CutShort);
     }

@@ -87,7 +87,7 @@ pub fn lay_out_nodes(table: &[u32], parents: &mut [u16], limits: &mut [u32])
     ensures laid_out { OfRoom table.now (λ r. (parents.new ≡ parents_of r) × (limits.new ≡ limits_of r)) }
 {
     let percents = has_percents(word(table, 0));
-    // By hand: (c) tried `zip(limits)`: what a zip of two lists that are written leaves in them, no proof knows.
+    // By hand: tried `zip(limits)`: what a zip of two lists that are written leaves in them, no proof knows.
     for (m, parent) in parents.iter_mut().enumerate() {
         let i = node_index(percents, m);
         *parent = table[i] as u16;

@@ -44,7 +44,6 @@ fn decode_bytes(sheet: &[u8], at: usize) -> Result<(u32, usize), Fault>
     ensures result { MatchResult result (λ found. Ok found ≡ decoded at (number (drop at sheet.now)))
         (λ fault. Err (record { fault = fault; place = at }) ≡ decoded at (number (drop at sheet.now))) }
 {
-    // By hand: the chips' build takes no `get`, whose pointer stands in a pair (chips/portable.awk).
     if sheet.len() <= at {
         return Err(Fault::CutShort);
     }

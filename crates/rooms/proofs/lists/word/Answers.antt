@@ -1,7 +1,0 @@
--- `word` meets its contract: a list has 0 past its end.
-use mathlib.Core.Path.{sym}
-use lib.ListN.{get_or-eq_default}
-use Rattle.rooms.proofs.lists.word.Goals as goal
-
-pub returns-else-i-table : goal.returns-else-i-table
-returns-else-i-table c = record { result = sym (get_or-eq_default c.args.table.now 0 {n = c.args.i} c.if-i-table.false) }

@@ -1,8 +1,7 @@
--- Laws of sums, of lists of figures, of lists that code fills, of the columns of rows and their cells.
+-- Laws of sums, of lists of figures, of lists that code fills, of the cells of rows.
 pub mod Sums
 pub mod Lists
 pub mod Filled
-pub mod Columns
 pub mod Cells
 -- Tests.
 pub mod Tests

@@ -19,11 +19,6 @@ at figures i = get_or figures i 0
 abbrev pub cell : List (List ℕ) → ℕ → ℕ → ℕ
 cell rows m j = at (get_or rows m []) j
 
--- The figures at place k of each row, as a list.
-unfoldable pub column : ℕ → List (List ℕ) → List ℕ
-column k [] = []
-column k (row ∷ rows) = at row k ∷ column k rows
-
 -- A figure, added up over a list.
 unfoldable pub total : {A : Type 0} → (A → ℕ) → List A → ℕ
 total figure [] = 0

@@ -1,6 +1,6 @@
 -- The turns of the walk that loads a good table's cords: before each turn the lists have the figures of the servers and cords passed.
 use mathlib.Core.Path.{◌≡◌, sym, ap, subst, ◌∙◌}
-use mathlib.Core.List.{List, [], ◌∷◌}
+use mathlib.Core.List.{List}
 use Prim.Native.Nat.{ℕ, ◌+◌, ◌-◌, ◌^◌, ◌≤◌, ◌<◌, min, max}
 use native.Mathlib.Omega.{arith}
 use lib.ListN.{length, set, replicate, length-replicate}
@@ -13,8 +13,10 @@ use Rattle.rooms.specs.Table.{Room, IsScale, most_servers, most_cords, most_watt
 use Rattle.rooms.specs.Limits.{checked, carried}
 use Rattle.rooms.specs.Cords.{server_at}
 use Rattle.rooms.specs.Lists.{lows_of}
-use Rattle.rooms.specs.Rows.{OfRoom, ScaleIs}
+use Rattle.rooms.specs.Rows.{no_server_row, OfRoom, ScaleIs}
 use Rattle.rooms.specs.Walk.{servers_index}
+use Rattle.rooms.specs.declared.lists.CordRow.{CordRow}
+use Rattle.rooms.specs.declared.lists.ServerRow.{ServerRow}
 use Rattle.rooms.proofs.Accepted.{Accepted, accepted}
 use Rattle.rooms.proofs.Walk.{ServerHere, walk_end}
 use Rattle.rooms.proofs.Laying.{Laying, LayingServer, laying_start, laying_end, served, corded}
@@ -34,23 +36,23 @@ pub record FiguresDone (r : Room) (demands : List ℕ) (v c : ℕ) (lows wants c
 
 -- The walk stands before the server at place v, whose cords stand from place `first` on; the cords before place c are loaded. What is known
 -- of the cords' rows is what is known where servers have rows too: those stand in no list of the code.
-pub record Loading (table demands : List ℕ) (scale v start first c : ℕ) (cords : List (List ℕ)) (lows wants ceilings needed : List ℕ) : Type 0 where
+pub record Loading (table demands : List ℕ) (scale v start first c : ℕ) (cords : List CordRow) (lows wants ceilings needed : List ℕ) : Type 0 where
   pub room : Room
   pub end : ℕ
   pub read : checked table 0 ≡ good room end
   pub scale_is : scale ≡ room.scale
-  pub servers : List (List ℕ)
+  pub servers : List ServerRow
   pub demands_size : length demands ≡ length servers
   pub laying : Laying table v start first c servers cords
   pub figures : FiguresDone room demands v c lows wants ceilings needed
 
 -- Within that server, of which these figures are read: the words of the cord at place c start at index `word`.
-pub record LoadingServer (table demands : List ℕ) (scale v start first level least greatest need count c word : ℕ) (cords : List (List ℕ)) (lows wants ceilings needed : List ℕ) : Type 0 where
+pub record LoadingServer (table demands : List ℕ) (scale v start first level least greatest need count c word : ℕ) (cords : List CordRow) (lows wants ceilings needed : List ℕ) : Type 0 where
   pub room : Room
   pub end : ℕ
   pub read : checked table 0 ≡ good room end
   pub scale_is : scale ≡ room.scale
-  pub servers : List (List ℕ)
+  pub servers : List ServerRow
   pub demands_size : length demands ≡ length servers
   pub laying : LayingServer table v start first count c word servers cords
   pub level_is : level ≡ at table start - 1
@@ -69,14 +71,14 @@ here_in {table} {v = v} {start} {first} e here = subst (λ (x : Room). ServerHer
 none_filled : {n : ℕ} (g : ℕ → ℕ) (l : List ℕ) → length l ≡ n → Filled g n 0 l
 none_filled g l e = rw (← e) (filled_none g l)
 
-pub loading_start : {table demands : List ℕ} {cords : List (List ℕ)} {lows wants ceilings needed : List ℕ} → CordsLent table demands cords lows wants ceilings needed
+pub loading_start : {table demands : List ℕ} {cords : List CordRow} {lows wants ceilings needed : List ℕ} → CordsLent table demands cords lows wants ceilings needed
     → {scale : ℕ} → ScaleIs table scale → {start : ℕ} → start ≡ servers_index table + 1 → Loading table demands scale 0 start 0 0 cords lows wants ceilings needed
 loading_start {table} {demands} {cords} {lows} {wants} {ceilings} {needed} lent scaled {start} e =
     let room = lent.good_table.value in
     let end = lent.good_table.next in
     let read = lent.good_table.is in
-    let rows : List (List ℕ) = replicate (length demands) [] in
-    let size : length rows ≡ length demands = length-replicate (length demands) [] in
+    let rows : List ServerRow = replicate (length demands) no_server_row in
+    let size : length rows ≡ length demands = length-replicate (length demands) no_server_row in
     record {
       room = room;
       end = end;
@@ -109,7 +111,7 @@ ceilings_length : (r : Room) → length (ceilings_of r) ≡ room_cords r
 unfolding ceilings_of
 ceilings_length r = carried_by-length r (figures (length r.servers) (λ v. (server_at r v).greatest))
 
-module _ {table demands : List ℕ} {scale v start first c : ℕ} {cords : List (List ℕ)} {lows wants ceilings needed : List ℕ}
+module _ {table demands : List ℕ} {scale v start first c : ℕ} {cords : List CordRow} {lows wants ceilings needed : List ℕ}
     (loading : Loading table demands scale v start first c cords lows wants ceilings needed) where
   of_laying : loading.laying.room ≡ loading.room
   of_laying = one_room table loading.laying.read loading.read
@@ -118,7 +120,7 @@ module _ {table demands : List ℕ} {scale v start first c : ℕ} {cords : List 
   servers_size = loading.demands_size ∙ served loading.laying ∙ ap (λ (x : Room). length x.servers) of_laying
 
   -- The lists are as long as those that were lent.
-  module _ {cords₀ : List (List ℕ)} {lows₀ wants₀ ceilings₀ needed₀ : List ℕ} (lent : CordsLent table demands cords₀ lows₀ wants₀ ceilings₀ needed₀) where
+  module _ {cords₀ : List CordRow} {lows₀ wants₀ ceilings₀ needed₀ : List ℕ} (lent : CordsLent table demands cords₀ lows₀ wants₀ ceilings₀ needed₀) where
     pub cords_kept : length cords ≡ length cords₀
     cords_kept = corded loading.laying ∙ sym (lent.cords-fit loading.laying.room loading.laying.end loading.laying.read)
 
@@ -183,11 +185,12 @@ module _ {table demands : List ℕ} {scale v start first c : ℕ} {cords : List 
         }
 
 -- The figures of a row may have other names.
-row_as : {a b c d a' b' c' d' : ℕ} → a ≡ a' → b ≡ b' → c ≡ c' → d ≡ d' → ◌≡◌ {A = List ℕ} (a ∷ b ∷ c ∷ d ∷ []) (a' ∷ b' ∷ c' ∷ d' ∷ [])
-row_as e f g h = λ i. e i ∷ f i ∷ g i ∷ h i ∷ []
+row_as : {a b c d a' b' c' d' : ℕ} → a ≡ a' → b ≡ b' → c ≡ c' → d ≡ d'
+    → ◌≡◌ {A = CordRow} (record { node = a; server = b; level = c; share = d }) (record { node = a'; server = b'; level = c'; share = d' })
+row_as e f g h = λ i. record { node = e i; server = f i; level = g i; share = h i }
 
 -- What code relies on at a cord.
-pub record CordFits (table : List ℕ) (scale v least greatest need c word : ℕ) (cords : List (List ℕ)) (lows wants ceilings : List ℕ) : Type 0 where
+pub record CordFits (table : List ℕ) (scale v least greatest need c word : ℕ) (cords : List CordRow) (lows wants ceilings : List ℕ) : Type 0 where
   pub there : word + 1 < length table
   pub few : c < most_cords
   pub in_cords : c < length cords
@@ -203,7 +206,7 @@ pub record CordFits (table : List ℕ) (scale v least greatest need c word : ℕ
   pub need_most : need ≤ most_watts
   pub greatest_most : greatest ≤ most_watts
 
-module _ {table demands : List ℕ} {scale v start first level least greatest need count c word : ℕ} {cords : List (List ℕ)} {lows wants ceilings needed : List ℕ}
+module _ {table demands : List ℕ} {scale v start first level least greatest need count c word : ℕ} {cords : List CordRow} {lows wants ceilings needed : List ℕ}
     (server : LoadingServer table demands scale v start first level least greatest need count c word cords lows wants ceilings needed) where
   abbrev laying : LayingServer table v start first count c word server.servers cords
   laying = server.laying
@@ -237,7 +240,7 @@ module _ {table demands : List ℕ} {scale v start first level least greatest ne
         end = server.end;
         read = server.read;
         scale_is = server.scale_is;
-        servers = set server.servers v (at table start ∷ at table (start + 1) ∷ at table (start + 2) ∷ at table (start + 3) ∷ []);
+        servers = set server.servers v (record { rank = at table start; least = at table (start + 1); greatest = at table (start + 2); cords = at table (start + 3) });
         demands_size = server.demands_size ∙ sym passed.0;
         laying = passed.1;
         figures = record {
@@ -278,7 +281,7 @@ module _ {table demands : List ℕ} {scale v start first level least greatest ne
     pub server-cord : {node place share low want ceiling : ℕ} → node ≡ at table word → place ≡ v → share ≡ at table (word + 1)
         → low ≡ carried scale (at table (word + 1)) least → want ≡ carried scale (at table (word + 1)) need
         → ceiling ≡ carried scale (at table (word + 1)) greatest
-        → LoadingServer table demands scale v start first level least greatest need count (c + 1) (word + 2) (set cords c (node ∷ place ∷ level ∷ share ∷ []))
+        → LoadingServer table demands scale v start first level least greatest need count (c + 1) (word + 2) (set cords c (record { node = node; server = place; level = level; share = share }))
         (set lows c low) (set wants c want) (set ceilings c ceiling) needed
     server-cord en ep es el ew et =
         let figures = server.figures in

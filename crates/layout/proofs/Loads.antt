@@ -23,6 +23,7 @@ use Rattle.rooms.specs.Rows.{OfRoom, NodesFit, ServersFit, CordsFit}
 use Rattle.rooms.specs.Told.{told}
 use Rattle.std.specs.Prelude.{Ok, Err}
 use Rattle.rooms.specs.declared.SheetRefusal.{SheetRefusal}
+use Rattle.rooms.specs.declared.lists.CordRow.{CordRow}
 use Rattle.rooms.proofs.Found.{node_lows-at, lows_told-length}
 use Rattle.rooms.proofs.Accepted.{Accepted}
 use Rattle.rooms.proofs.Accepted as rooms
@@ -233,7 +234,7 @@ front_is {n = n} {m = m} {list = list} {back = back} b e = take_at back (drop n 
 
 -- The room's lists stand at the fronts.
 module _ {table demands : List ℕ} {counts : Counts} (f : RoomFound table demands counts)
-    {parents spare lows wants ceilings needed parents' spare' lows' wants' ceilings' needed' : List ℕ} {cords cords' : List (List ℕ)}
+    {parents spare lows wants ceilings needed parents' spare' lows' wants' ceilings' needed' : List ℕ} {cords cords' : List CordRow}
     (of_nodes : OfRoom table (λ r. (parents' ≡ parents_of r) × ((n : ℕ) → n < length r.nodes → at spare' n + lows_beneath r n ≡ at (limits_of r) n)))
     (of_cords : OfRoom table (λ r. CordsLaidOut r demands cords' lows' wants' ceilings' needed'))
     (p : Back counts.nodes parents parents') (s : Back counts.nodes spare spare') (k : Back counts.cords cords cords') (l : Back counts.cords lows lows')

@@ -3,15 +3,15 @@
 #![tactic(auto)]
 
 ghost use Rattle.std.specs.Prelude.{◌≡◌, ℕ, ◌+◌, ◌≤◌, ◌<◌, min, max, length};
-ghost use Rattle.figures.specs.Figures.{at, column};
+ghost use Rattle.figures.specs.Figures.{at};
 ghost use Rattle.rooms.specs.Part.{Good};
 ghost use Rattle.rooms.specs.Limits.{lows_beneath, checked};
 ghost use Rattle.rooms.specs.Lists.{parents_of, limits_of};
-ghost use Rattle.rooms.specs.Rows.{OfRoom, NodesFit, node_column};
+ghost use Rattle.rooms.specs.Rows.{nodes_in, OfRoom, NodesFit};
 ghost use Rattle.layout.specs.Lists.{HasLowsBeneath, CordsLent, CordsLaidOut};
 
 use rooms::limits::carried_by;
-use rooms::lists::{NODE, first_server, lay_out_nodes, table_scale};
+use rooms::lists::{CordRow, first_server, lay_out_nodes, table_scale};
 
 pub mod room;
 
@@ -51,7 +51,7 @@ pub fn need_of(demand: u32, least: u32, greatest: u32) -> u32
 pub fn load_cords(
     table: &[u32],
     demands: &[u32],
-    cords: &mut [[u16; 4]],
+    cords: &mut [CordRow],
     lows: &mut [u32],
     wants: &mut [u32],
     ceilings: &mut [u32],
@@ -74,7 +74,12 @@ pub fn load_cords(
         for c in first..first + count {
             let node = table[word] as u16;
             let share = table[word + 1];
-            cords[c] = [node, v as u16, level, share as u16];
+            cords[c] = CordRow {
+                node,
+                server: v as u16,
+                level,
+                share: share as u16,
+            };
             lows[c] = carried_by(share, least, scale);
             wants[c] = carried_by(share, need, scale);
             ceilings[c] = carried_by(share, greatest, scale);
@@ -87,11 +92,11 @@ pub fn load_cords(
 }
 
 // The node of each cord, by the rows.
-pub fn list_nodes(cords: &[[u16; 4]], nodes: &mut [u16])
+pub fn list_nodes(cords: &[CordRow], nodes: &mut [u16])
     requires size { length nodes.old ≡ length cords.now }
-    ensures listed { nodes.new ≡ column node_column cords.now }
+    ensures listed { nodes.new ≡ nodes_in cords.now }
 {
     for (c, node) in nodes.iter_mut().enumerate() {
-        *node = cords[c][NODE];
+        *node = cords[c].node;
     }
 }

@@ -14,7 +14,7 @@ use deals::PlanRefusal;
 use demands::DECIDING_DEMANDS;
 use figures::first_not_below;
 use outcomes::Refusal;
-use rooms::lists::{node_count, server_count, table_scale};
+use rooms::lists::{CordRow, node_count, server_count, table_scale};
 use rooms::{DECIDING_WORDS, MOST_WATTS, SheetRefusal};
 
 // One more than the most watts of a demand.
@@ -115,7 +115,7 @@ pub fn load_room(
     demands: &[u32],
     parents: &mut [u16],
     spare: &mut [u32],
-    cords: &mut [[u16; 4]],
+    cords: &mut [CordRow],
     lows: &mut [u32],
     wants: &mut [u32],
     ceilings: &mut [u32],
@@ -154,7 +154,7 @@ pub fn load_bytes(
     demands: &[u8],
     parents: &mut [u16],
     spare: &mut [u32],
-    cords: &mut [[u16; 4]],
+    cords: &mut [CordRow],
     lows: &mut [u32],
     wants: &mut [u32],
     ceilings: &mut [u32],

@@ -13,6 +13,7 @@ use deals::{Lengths, PlanRefusal};
 use layout::room::load_bytes;
 use plan_rooms::plan_loaded;
 use plans::admit;
+use rooms::lists::NO_CORD;
 use rooms::{MOST_CORDS, MOST_SERVERS};
 
 // Plan: for each cord a grant, its headroom and the number of the node that holds it (0 for none), and for each server a cap, at the fronts
@@ -99,7 +100,7 @@ fn plan_figures(
 {
     let mut parents = [0u16; 512];
     let mut left = [0u32; 512];
-    let mut cords = [[0u16; 4]; 1024];
+    let mut cords = [NO_CORD; 1024];
     let mut lows = [0u32; 1024];
     let mut wants = [0u32; 1024];
     let loaded = load_bytes(

@@ -6,15 +6,14 @@ use mathlib.Core.List.{List}
 use Prim.Native.Nat.{ℕ, zero, suc, ◌≤◌, ◌<◌}
 use native.Mathlib.Omega.{arith}
 use lib.Dec.{eqb, ltb}
-use lib.ListN.{length}
+use lib.ListN.{length, length-map, get_or-map}
 use lib.Seq.{ext_get_or}
-use Rattle.figures.specs.Figures.{figures, at, cell, column}
+use Rattle.figures.specs.Figures.{figures, at}
 use Rattle.figures.specs.Sums.{on}
 use Rattle.figures.proofs.Lists.{figures-at, figures-length}
-use Rattle.figures.proofs.Columns.{column-length, column-at}
 use Rattle.rooms.specs.Table.{Room, highest_rank}
 use Rattle.rooms.specs.Lists.{parents_of, limits_of, nodes_of, levels_of, lows_of}
-use Rattle.rooms.specs.Rows.{node_column, level_column, CordRows}
+use Rattle.rooms.specs.Rows.{nodes_in, levels_in, cord_row_at, no_cord_row, CordRows}
 use Rattle.deals.specs.Metrics.{deal_from, deal_of, metrics}
 use Rattle.deals.specs.Dealing.{granted}
 use Rattle.deals.specs.SecondDeal.{first_used, second_deal, second_wants, second_grants}
@@ -22,6 +21,7 @@ use Rattle.deals.specs.Held.{cut_from, nearest_root, holder, held_over, held}
 use Rattle.plan_holders.specs.Holding.{HeldLists, holder_from, held_from}
 use Rattle.plan_holders.proofs.Rows.{held_at}
 use Rattle.rooms.specs.Trees.{ParentsFirst}
+use Rattle.rooms.specs.declared.lists.CordRow.{CordRow}
 
 -- Two tests that agree on every node name the same one.
 nearest_cong : (nodes : ℕ) (parent : ℕ → ℕ) → ParentsFirst nodes parent → (test other : ℕ → Bool) → ((n : ℕ) → n < nodes → test n ≡ other n)
@@ -46,32 +46,32 @@ module _ (parents limits nodes levels lows starts wants : List ℕ) where
       let d = deal_from parents limits nodes levels lows starts wants in
       (n j : ℕ) → n < d.nodes → j < highest_rank → cut_from d (metrics d) j n ≡ ltb j (at cuts n)
 
-  module _ {cuts : List ℕ} {cords : List (List ℕ)} {grants : List ℕ} (lists : HeldLists parents cuts cords wants grants) where
+  module _ {cuts : List ℕ} {cords : List CordRow} {grants : List ℕ} (lists : HeldLists parents cuts cords wants grants) where
     -- What is named for each cord.
-    held_one : column node_column cords ≡ nodes → column level_column cords ≡ levels → CutsMarked cuts → (c : ℕ) → c < length cords
-        → holder_from parents cuts (cell cords c level_column) (cell cords c node_column)
+    held_one : nodes_in cords ≡ nodes → levels_in cords ≡ levels → CutsMarked cuts → (c : ℕ) → c < length cords
+        → holder_from parents cuts (cord_row_at cords c).level (cord_row_at cords c).node
         ≡ holder (deal_from parents limits nodes levels lows starts wants) (metrics (deal_from parents limits nodes levels lows starts wants)) c
     unfolding holder deal_from
     held_one n l marked c h =
         let d = deal_from parents limits nodes levels lows starts wants in
-        let node_is : cell cords c node_column ≡ at nodes c = sym (column-at node_column cords c) ∙ ap (λ (z : List ℕ). at z c) n in
-        let level_is : cell cords c level_column ≡ at levels c = sym (column-at level_column cords c) ∙ ap (λ (z : List ℕ). at z c) l in
+        let node_is : (cord_row_at cords c).node ≡ at nodes c = sym (get_or-map (λ (row : CordRow). row.node) cords c no_cord_row) ∙ ap (λ (z : List ℕ). at z c) n in
+        let level_is : (cord_row_at cords c).level ≡ at levels c = sym (get_or-map (λ (row : CordRow). row.level) cords c no_cord_row) ∙ ap (λ (z : List ℕ). at z c) l in
         ap₂ (holder_from parents cuts) level_is node_is
         ∙ sym (nearest_cong (length parents) (at parents) lists.of_nodes.rises (cut_from d (metrics d) (at levels c)) (λ i. ltb (at levels c) (at cuts i))
         (λ i q. marked i (at levels c) q (omega (arith, level_is, lists.ranked c h))) (length parents) (at nodes c) (omega (arith, node_is, lists.within c h)))
 
-    pub held-over : column node_column cords ≡ nodes → column level_column cords ≡ levels → grants ≡ granted (deal_from parents limits nodes levels lows starts wants)
+    pub held-over : nodes_in cords ≡ nodes → levels_in cords ≡ levels → grants ≡ granted (deal_from parents limits nodes levels lows starts wants)
         → CutsMarked cuts → held_from parents cuts cords wants grants ≡ held_over (deal_from parents limits nodes levels lows starts wants)
     unfolding held_over deal_from
     held-over n l g marked =
         let d = deal_from parents limits nodes levels lows starts wants in
-        let size : length cords ≡ length nodes = sym (column-length node_column cords) ∙ ap length n in
+        let size : length cords ≡ length nodes = sym (length-map cords (λ (row : CordRow). row.node)) ∙ ap length n in
         figures_cong (length cords) (held_at parents cuts cords wants grants) (λ c. cond (eqb (at (granted d) c) (at wants c)) 0 (holder d (metrics d) c))
         (λ c h. ap₂ (λ (got : List ℕ) (by : ℕ). cond (eqb (at got c) (at wants c)) 0 by) g (held_one n l marked c h))
         ∙ ap (λ (k : ℕ). figures k (λ c. cond (eqb (at (granted d) c) (at wants c)) 0 (holder d (metrics d) c))) size
 
 -- Of the second deal of a room with given demands.
-pub held_second : (r : Room) (demands : List ℕ) {cuts : List ℕ} {cords : List (List ℕ)} {grants : List ℕ}
+pub held_second : (r : Room) (demands : List ℕ) {cuts : List ℕ} {cords : List CordRow} {grants : List ℕ}
     → HeldLists (parents_of r) cuts cords (second_wants r demands) grants → CordRows r cords → grants ≡ second_grants r demands
     → ((n j : ℕ) → n < (second_deal r demands).nodes → j < highest_rank → cut_from (second_deal r demands) (metrics (second_deal r demands)) j n ≡ ltb j (at cuts n))
     → held_from (parents_of r) cuts cords (second_wants r demands) grants ≡ held r demands

@@ -17,9 +17,10 @@ use Rattle.figures.specs.Sums.{on}
 use Rattle.figures.proofs.Lists.{figures-at, figures-length}
 use Rattle.rooms.specs.Table.{most_nodes, highest_rank}
 use Rattle.deals.specs.Held.{nearest_root}
-use Rattle.rooms.specs.Rows.{node_column, level_column}
+use Rattle.rooms.specs.Rows.{cord_row_at}
 use Rattle.plan_holders.specs.Holding.{HeldLists, holder_from, CutNodes, RowsByNumber, next_row, HolderRows}
 use Rattle.rooms.specs.Trees.{ParentsFirst}
+use Rattle.rooms.specs.declared.lists.CordRow.{CordRow}
 
 -- ---- The node nearest the root
 
@@ -149,15 +150,15 @@ module _ {parents cuts : List ℕ} where
 -- ---- The cords
 
 -- What is named for the cord at place c.
-abbrev pub held_at : List ℕ → List ℕ → List (List ℕ) → List ℕ → List ℕ → ℕ → ℕ
+abbrev pub held_at : List ℕ → List ℕ → List CordRow → List ℕ → List ℕ → ℕ → ℕ
 held_at parents cuts cords wants grants c =
-    cond (eqb (at grants c) (at wants c)) 0 (holder_from parents cuts (cell cords c level_column) (cell cords c node_column))
+    cond (eqb (at grants c) (at wants c)) 0 (holder_from parents cuts (cord_row_at cords c).level (cord_row_at cords c).node)
 
 -- By the row of its node, at its level.
-pub held_is : {parents cuts : List ℕ} {cords rows : List (List ℕ)} {wants grants : List ℕ} {c node level x : ℕ} → HeldLists parents cuts cords wants grants
-    → HolderRows parents cuts rows → c < length cords → node ≡ cell cords c node_column → level ≡ cell cords c level_column
+pub held_is : {parents cuts : List ℕ} {cords : List CordRow} {rows : List (List ℕ)} {wants grants : List ℕ} {c node level x : ℕ} → HeldLists parents cuts cords wants grants
+    → HolderRows parents cuts rows → c < length cords → node ≡ (cord_row_at cords c).node → level ≡ (cord_row_at cords c).level
     → x ≡ cond (eqb (at grants c) (at wants c)) 0 (cell rows node level) → x ≡ held_at parents cuts cords wants grants c
 held_is {parents} {cuts} {cords} {rows} {wants} {grants} {c} {node} {level} h r l n j e =
     e
     ∙ ap (λ (k : ℕ). cond (eqb (at grants c) (at wants c)) 0 k)
-    (ap₂ (cell rows) n j ∙ r.named (cell cords c node_column) (cell cords c level_column) (h.within c l) (h.ranked c l))
+    (ap₂ (cell rows) n j ∙ r.named (cord_row_at cords c).node (cord_row_at cords c).level (h.within c l) (h.ranked c l))

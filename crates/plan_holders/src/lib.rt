@@ -8,7 +8,7 @@ ghost use Rattle.figures.specs.Sums.{on};
 ghost use Rattle.rooms.specs.Table.{most_nodes, highest_rank};
 ghost use Rattle.plan_holders.specs.Holding.{HeldLists, CutNodes, HolderRows, next_row, held_from};
 
-use rooms::lists::{LEVEL, NODE};
+use rooms::lists::CordRow;
 
 // A node's number if it is cut at a rank or a higher one, else 0. `cut` is the highest rank at which it is.
 fn own(rank: u16, cut: u16, number: u16) -> u16
@@ -60,7 +60,7 @@ fn held_by(grant: u32, want: u32, holder: u16) -> u32
 pub fn name_holders(
     parents: &[u16],
     cuts: &[u16],
-    cords: &[[u16; 4]],
+    cords: &[CordRow],
     wants: &[u32],
     grants: &[u32],
     held: &mut [u32],
@@ -72,8 +72,8 @@ pub fn name_holders(
     let mut rows = [[0u16; 16]; 513];
     fill_rows(parents, cuts, &mut rows);
     for (c, cord) in cords.iter().enumerate() {
-        let node = usize::from(cord[NODE]);
-        let level = usize::from(cord[LEVEL]);
+        let node = usize::from(cord.node);
+        let level = usize::from(cord.level);
         held[c] = held_by(grants[c], wants[c], rows[node][level]);
     }
 }

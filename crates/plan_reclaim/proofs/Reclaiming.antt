@@ -7,63 +7,63 @@ use native.Mathlib.Nat.{le_trans, le_of_eq, mul-le-mul}
 use native.Mathlib.Numerals.{add-one}
 use native.Mathlib.Omega.{arith}
 use lib.Dec.{eqb, ltb}
-use lib.ListN.{length, set, length-set}
+use lib.ListN.{length, set, length-set, length-map, get_or-map}
 use lib.Seq.{get_or-set_same, get_or-set_other, ext_get_or}
 use borrow.Author.Tests.{eqb-true, eqb-false, lt-ltb, le-ltb}
 use Rattle.figures.specs.Sums.{sum}
 use Rattle.rooms.specs.Limits.{carried}
 use Rattle.figures.proofs.Tests.{and_false}
 use Rattle.figures.proofs.Sums.{sum_suc, sum_none}
-use Rattle.figures.specs.Figures.{figures, at, cell, column, sum_of}
-use Rattle.rooms.specs.Rows.{server_column, share_column}
+use Rattle.figures.specs.Figures.{figures, at, sum_of}
+use Rattle.rooms.specs.Rows.{servers_in, shares_in, cord_row_at, no_cord_row}
+use Rattle.rooms.specs.declared.lists.CordRow.{CordRow}
 use Rattle.plan_reclaim.specs.Reclaimed.{ServerLists, usable_before, usable_from, used_from, stranded_from, wants_from}
 use Rattle.figures.proofs.Lists.{figures-at, figures-length, total-sum}
-use Rattle.figures.proofs.Columns.{column-length, column-at}
 use Rattle.deals.proofs.Loads.{least_over_next, least_over_zero, least_over_start}
 use Rattle.figures.proofs.Filled.{Filled, filled_none, filled_one, filled_all}
 
 -- The share of each cord, the place of its server, and what it carries of what its server can use.
-abbrev shares : List (List ℕ) → List ℕ
-shares cords = column share_column cords
+abbrev shares : List CordRow → List ℕ
+shares cords = shares_in cords
 
-abbrev servers : List (List ℕ) → List ℕ
-servers cords = column server_column cords
+abbrev servers : List CordRow → List ℕ
+servers cords = servers_in cords
 
-abbrev used : ℕ → List (List ℕ) → List ℕ → List ℕ
+abbrev used : ℕ → List CordRow → List ℕ → List ℕ
 used scale cords usable = used_from scale (shares cords) (servers cords) usable
 
 -- ---- The usable watts
 
 -- Each server's usable watts by its cords before place c.
-pub record UsableBy (scale : ℕ) (cords : List (List ℕ)) (needs grants : List ℕ) (c : ℕ) (usable : List ℕ) : Type 0 where
+pub record UsableBy (scale : ℕ) (cords : List CordRow) (needs grants : List ℕ) (c : ℕ) (usable : List ℕ) : Type 0 where
   pub size_is : length usable ≡ length needs
   pub is : (v : ℕ) → v < length needs → at usable v ≡ usable_before scale (shares cords) (servers cords) needs grants c v
 
-module _ {scale : ℕ} {cords : List (List ℕ)} {needs grants : List ℕ} where
+module _ {scale : ℕ} {cords : List CordRow} {needs grants : List ℕ} where
   pub usable_none : UsableBy scale cords needs grants 0 needs
   usable_none = record { size_is = refl; is = λ v l. sym (least_over_zero _ _ (at needs v)) }
 
   module _ {c : ℕ} {usable : List ℕ} (by : UsableBy scale cords needs grants c usable) where
     -- One cord more: its share is 0, or it lowers its server's figure to the load at which it carries its grant.
-    pub usable_kept : cell cords c share_column ≡ 0 → UsableBy scale cords needs grants (c + 1) usable
+    pub usable_kept : (cord_row_at cords c).share ≡ 0 → UsableBy scale cords needs grants (c + 1) usable
     usable_kept z =
-        let none : at (shares cords) c ≡ 0 = column-at share_column cords c ∙ z in
+        let none : at (shares cords) c ≡ 0 = get_or-map (λ (row : CordRow). row.share) cords c no_cord_row ∙ z in
         record {
           size_is = by.size_is;
           is = λ v l. by.is v l ∙ sym (least_over_next c _ _ (at needs v) false (ap (λ (t : Bool). eqb (at (servers cords) c) v && t) (le-ltb 0 (at (shares cords) c) (omega arith)) ∙ and_false (eqb (at (servers cords) c) v)));
         }
 
-    pub usable_lowered : {v share times grant before after : ℕ} → v ≡ cell cords c server_column → v < length needs → share ≡ cell cords c share_column → (share ≡ 0 → ⊥)
+    pub usable_lowered : {v share times grant before after : ℕ} → v ≡ (cord_row_at cords c).server → v < length needs → share ≡ (cord_row_at cords c).share → (share ≡ 0 → ⊥)
         → times ≡ scale → grant ≡ at grants c → before ≡ at usable v → after ≡ min before (times * grant / share)
         → UsableBy scale cords needs grants (c + 1) (set usable v after)
     usable_lowered {v} {share} {times} {grant} {before} {after} place within part some et eg eb ea =
         record { size_is = length-set usable v after ∙ by.size_is; is = λ h l. go h l (eqb (at (servers cords) c) h) refl }
       where
         ev : v ≡ at (servers cords) c
-        ev = place ∙ sym (column-at server_column cords c)
+        ev = place ∙ sym (get_or-map (λ (row : CordRow). row.server) cords c no_cord_row)
 
         es : share ≡ at (shares cords) c
-        es = part ∙ sym (column-at share_column cords c)
+        es = part ∙ sym (get_or-map (λ (row : CordRow). row.share) cords c no_cord_row)
 
         lowered : after ≡ min (at usable v) (scale * at grants c / at (shares cords) c)
         lowered = ea ∙ rw (es, et, eg, eb)
@@ -83,7 +83,7 @@ module _ {scale : ℕ} {cords : List (List ℕ)} {needs grants : List ℕ} where
 
     pub usable_all : c ≡ length cords → usable ≡ usable_from scale (shares cords) (servers cords) needs grants
     usable_all e =
-        let all : c ≡ length (shares cords) = e ∙ sym (column-length share_column cords) in
+        let all : c ≡ length (shares cords) = e ∙ sym (length-map cords (λ (row : CordRow). row.share)) in
         rw (← all)
         (ext_get_or 0 usable (figures (length needs) (usable_before scale (shares cords) (servers cords) needs grants c)) (by.size_is ∙ sym (figures-length (length needs) _))
         (λ v l. let here : v < length needs = omega (arith, by.size_is) in by.is v here ∙ sym (figures-at (length needs) v _ here)))
@@ -96,7 +96,7 @@ product_fits {a} {b} l h =
     omega (arith, mul-le-mul most most')
 
 -- They are no more than the needs, so that the cords carry them too.
-pub usable-lists : {scale : ℕ} {cords : List (List ℕ)} {needs : List ℕ} (grants : List ℕ) {n : ℕ} → ServerLists scale cords needs n
+pub usable-lists : {scale : ℕ} {cords : List CordRow} {needs : List ℕ} (grants : List ℕ) {n : ℕ} → ServerLists scale cords needs n
     → ServerLists scale cords (usable_from scale (shares cords) (servers cords) needs grants) n
 usable-lists {scale} {cords} {needs} grants lists =
     let size = figures-length (length needs) (usable_before scale (shares cords) (servers cords) needs grants (length (shares cords))) in
@@ -114,29 +114,29 @@ usable-lists {scale} {cords} {needs} grants lists =
 -- ---- The watts freed, and the wants of the next deal
 
 -- After the cords before place c.
-pub record Reclaiming (scale : ℕ) (cords : List (List ℕ)) (usable grants first starts₀ : List ℕ) (c freed : ℕ) (starts wants : List ℕ) : Type 0 where
+pub record Reclaiming (scale : ℕ) (cords : List CordRow) (usable grants first starts₀ : List ℕ) (c freed : ℕ) (starts wants : List ℕ) : Type 0 where
   pub freed_is : freed ≡ sum c (at (stranded_from (used scale cords usable) grants))
   pub freed_most : freed ≤ c * 4294967295
   pub starts_done : Filled (at (used scale cords usable)) (length starts₀) c starts
   pub wants_done : Filled (at (wants_from (used scale cords usable) grants first)) (length first) c wants
   pub wants_left : (h : ℕ) → c ≤ h → at wants h ≡ at first h
 
-used_length : (scale : ℕ) (cords : List (List ℕ)) (usable : List ℕ) → length (used scale cords usable) ≡ length cords
-used_length scale cords usable = figures-length (length (shares cords)) _ ∙ column-length share_column cords
+used_length : (scale : ℕ) (cords : List CordRow) (usable : List ℕ) → length (used scale cords usable) ≡ length cords
+used_length scale cords usable = figures-length (length (shares cords)) _ ∙ length-map cords (λ (row : CordRow). row.share)
 
-module _ {scale : ℕ} {cords : List (List ℕ)} {usable grants first starts₀ : List ℕ} where
+module _ {scale : ℕ} {cords : List CordRow} {usable grants first starts₀ : List ℕ} where
   pub reclaiming_start : Reclaiming scale cords usable grants first starts₀ 0 0 starts₀ first
   reclaiming_start = record { freed_is = sym (sum_none _); freed_most = omega arith; starts_done = filled_none _ starts₀; wants_done = filled_none _ first; wants_left = λ h l. refl }
 
   module _ {c freed : ℕ} {starts wants : List ℕ} (by : Reclaiming scale cords usable grants first starts₀ c freed starts wants) (sizes : (length starts₀ ≡ length cords) × (length first ≡ length cords)) where
     module _ (here : c < length cords)
-        {share v x watts more : ℕ} (share_is : share ≡ cell cords c share_column) (place_is : v ≡ cell cords c server_column)
+        {share v x watts more : ℕ} (share_is : share ≡ (cord_row_at cords c).share) (place_is : v ≡ (cord_row_at cords c).server)
         (used_is : x ≡ carried scale share (at usable v)) (stranded_is : watts ≡ at grants c - x)
         (most : watts ≤ 4294967295) (more_is : more ≡ freed + watts) where
       used_here : at (used scale cords usable) c ≡ x
       used_here =
-          figures-at (length (shares cords)) c _ (omega (arith, column-length share_column cords))
-          ∙ ap₂ (λ (part h : ℕ). carried scale part (at usable h)) (column-at share_column cords c ∙ sym share_is) (column-at server_column cords c ∙ sym place_is)
+          figures-at (length (shares cords)) c _ (omega (arith, length-map cords (λ (row : CordRow). row.share)))
+          ∙ ap₂ (λ (part h : ℕ). carried scale part (at usable h)) (get_or-map (λ (row : CordRow). row.share) cords c no_cord_row ∙ sym share_is) (get_or-map (λ (row : CordRow). row.server) cords c no_cord_row ∙ sym place_is)
           ∙ sym used_is
 
       placed : c < length (used scale cords usable)

@@ -2,17 +2,18 @@
 -- `reclaim` cite, of the columns of the cords' rows.
 use Rattle.std.specs.Prelude.{◌≡◌, cond, ◌&&◌, List, ℕ, ◌-◌, ◌*◌, ◌/◌, ◌≤◌, ◌<◌, eqb, ltb, length}
 use Rattle.rooms.specs.Table.{IsScale, most_cords, most_watts}
-use Rattle.figures.specs.Figures.{figures, at, cell, sum_of}
-use Rattle.rooms.specs.Rows.{server_column, share_column, carried_from}
+use Rattle.figures.specs.Figures.{figures, at, sum_of}
+use Rattle.rooms.specs.Rows.{cord_row_at, carried_from}
+use Rattle.rooms.specs.declared.lists.CordRow.{CordRow}
 use Rattle.deals.specs.SecondDeal.{least_over}
 
 -- What the cords' rows must be, in a room of such a scale, with watts for each server: its need, or what it can use.
-pub record ServerLists (scale : ℕ) (cords : List (List ℕ)) (watts : List ℕ) (grant_count : ℕ) : Type 0 where
+pub record ServerLists (scale : ℕ) (cords : List CordRow) (watts : List ℕ) (grant_count : ℕ) : Type 0 where
   pub scaled : IsScale scale
   pub few : length cords ≤ most_cords
   pub grants_size : grant_count ≡ length cords
-  pub within : (c : ℕ) → c < length cords → cell cords c server_column < length watts
-  pub parts : (c : ℕ) → c < length cords → cell cords c share_column ≤ scale
+  pub within : (c : ℕ) → c < length cords → (cord_row_at cords c).server < length watts
+  pub parts : (c : ℕ) → c < length cords → (cord_row_at cords c).share ≤ scale
   pub most : (v : ℕ) → v < length watts → at watts v ≤ most_watts
 
 -- The usable watts of the server at place v by its cords that stand before place c: the least of its need and, over those with

@@ -9,6 +9,7 @@ use Rattle.figures.specs.Figures.{at}
 use Rattle.figures.proofs.Lists.{figures-length}
 use Rattle.rooms.specs.Table.{Room, room_cords}
 use Rattle.rooms.specs.Lists.{limits_of, nodes_of, levels_of, lows_of}
+use Rattle.rooms.specs.declared.lists.CordRow.{CordRow}
 use Rattle.rooms.proofs.Accepted.{Accepted}
 use Rattle.deals.specs.Metrics.{deal_from, deal_of}
 use Rattle.deals.specs.Dealing.{granted}
@@ -28,7 +29,7 @@ use Rattle.plan_rooms.proofs.Planning.{lists_second, levels_nodes, levels_cords,
 
 -- ---- After both deals
 
-module _ {r : Room} (ok : Accepted r) {demands parents spare : List ℕ} {cords : List (List ℕ)} {nodes lows wants needed : List ℕ} {scale : ℕ}
+module _ {r : Room} (ok : Accepted r) {demands parents spare : List ℕ} {cords : List CordRow} {nodes lows wants needed : List ℕ} {scale : ℕ}
     (of : RoomToDeal r demands parents spare cords nodes lows wants needed scale)
     {watts : ℕ} {given left cuts grants caps : List ℕ}
     (dealt : DealtTwice r demands watts given left cuts grants caps) where

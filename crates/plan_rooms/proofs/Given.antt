@@ -8,11 +8,11 @@ use lib.Dec.{leb}
 use lib.ListN.{length, take}
 use lib.Seq.{sets, take_all}
 use borrow.Author.Tests.{leb-true, leb-false}
-use Rattle.figures.specs.Figures.{column}
 use Rattle.figures.proofs.Lists.{figures-length}
 use Rattle.figures.proofs.Stores.{sets-front}
 use Rattle.rooms.specs.Table.{Room, most_nodes, most_cords, room_cords}
-use Rattle.rooms.specs.Rows.{node_column}
+use Rattle.rooms.specs.Rows.{nodes_in}
+use Rattle.rooms.specs.declared.lists.CordRow.{CordRow}
 use Rattle.rooms.proofs.Accepted.{Accepted, accepted}
 use Rattle.deals.specs.Wants.{needs, first_wants}
 use Rattle.deals.specs.Headroom.{ceilings_of}
@@ -33,7 +33,7 @@ front_long {n = n} list size is = go (leb n (length list)) refl
     go true e = leb-true n (length list) e
     go false e = omega (arith, leb-false n (length list) e, ap length (take_all n list (omega (arith, leb-false n (length list) e))))
 
-module _ {table demands : List ℕ} {r : Room} {counts : Counts} {parents spare : List ℕ} {cords : List (List ℕ)} {lows wants headroom caps : List ℕ}
+module _ {table demands : List ℕ} {r : Room} {counts : Counts} {parents spare : List ℕ} {cords : List CordRow} {lows wants headroom caps : List ℕ}
     (g : PlanGiven table demands r counts parents spare cords lows wants headroom caps) where
   pub given_ok : Accepted r
   given_ok = accepted table r g.end g.is
@@ -83,7 +83,7 @@ module _ {table demands : List ℕ} {r : Room} {counts : Counts} {parents spare 
   caps_long = front_long caps (ap length given-lists.cords_are.needs_are ∙ figures-length (length r.servers) _) servers_are
 
   -- With the cords' nodes they are what both deals ask.
-  pub to_deal : {nodes : List ℕ} → nodes ≡ column node_column (take counts.cords cords)
+  pub to_deal : {nodes : List ℕ} → nodes ≡ nodes_in (take counts.cords cords)
       → RoomToDeal r demands (take counts.nodes parents) (take counts.nodes spare) (take counts.cords cords) nodes
       (take counts.cords lows) (take counts.cords wants) (take counts.servers caps) counts.scale
   to_deal listed =

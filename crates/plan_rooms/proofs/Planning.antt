@@ -6,13 +6,12 @@ use Prim.Native.Nat.{ℕ, ◌+◌, ◌-◌, ◌*◌, ◌/◌, ◌≤◌, ◌<◌
 use native.Mathlib.Nat.{le_trans, le_of_eq}
 use native.Mathlib.Omega.{arith}
 use lib.Dec.{eqb, ltb}
-use lib.ListN.{length, take, replicate}
+use lib.ListN.{length, take, replicate, get_or-map}
 use lib.Seq.{get_or-take}
 use Rattle.rooms.specs.Table.{Room, room_cords, most_nodes}
 use Rattle.rooms.specs.Limits.{hangs_beneath}
 use Rattle.rooms.proofs.Accepted.{Accepted}
-use Rattle.figures.specs.Figures.{figures, at, column, sum_of}
-use Rattle.figures.proofs.Columns.{column-at}
+use Rattle.figures.specs.Figures.{figures, at, sum_of}
 use Rattle.figures.proofs.Lists.{figures-length}
 use Rattle.figures.proofs.Filled.{zeros-at}
 use Rattle.figures.proofs.Sums.{on_le, sum_le}
@@ -36,10 +35,11 @@ use Rattle.deals.specs.Ranks.{DealLists, list_beneath, Spare, DealGiven, DealMad
 use Rattle.plan_reclaim.specs.Raising.{Raisable}
 use Rattle.plan_reclaim.specs.Reclaimed.{ServerLists, usable_from, used_from, stranded_from, wants_from, freed_from}
 use Rattle.plan_reclaim.proofs.Reclaiming.{usable-lists}
-use Rattle.rooms.specs.Rows.{CordRows, node_column, server_column, level_column, share_column}
+use Rattle.rooms.specs.Rows.{nodes_in, servers_in, levels_in, shares_in, no_cord_row, CordRows}
 use Rattle.layout.proofs.Rows.{cords-count, server-at, share_at, carried_is}
 use Rattle.plan_rooms.specs.Planning.{RoomToDeal}
 use Rattle.rooms.specs.Trees.{sum_beneath, ParentsFirst}
+use Rattle.rooms.specs.declared.lists.CordRow.{CordRow}
 use Rattle.figures.specs.Places.{Zeros}
 
 -- No node is marked as cut in a list of zeros.
@@ -113,7 +113,7 @@ module _ (r : Room) where
 
 -- ---- Both deals
 
-module _ {r : Room} (ok : Accepted r) {demands parents spare : List ℕ} {cords : List (List ℕ)} {nodes lows wants needed : List ℕ} {scale : ℕ}
+module _ {r : Room} (ok : Accepted r) {demands parents spare : List ℕ} {cords : List CordRow} {nodes lows wants needed : List ℕ} {scale : ℕ}
     (of : RoomToDeal r demands parents spare cords nodes lows wants needed scale) where
   abbrev rows : CordRows r cords
   rows = of.lists.cords_are.rows_are
@@ -155,9 +155,9 @@ module _ {r : Room} (ok : Accepted r) {demands parents spare : List ℕ} {cords 
       (record {
         few = omega (arith, cords-count rows, ok.few_cords);
         within = λ c l.
-            omega (arith, column-at node_column cords c, ap (λ (l : List ℕ). at l c) rows.nodes, lists_first.of_cords.within c (count c l));
+            omega (arith, get_or-map (λ (row : CordRow). row.node) cords c no_cord_row, ap (λ (l : List ℕ). at l c) rows.nodes, lists_first.of_cords.within c (count c l));
         ranked = λ c l.
-            omega (arith, column-at level_column cords c, ap (λ (l : List ℕ). at l c) rows.levels, lists_first.of_cords.ranked c (count c l));
+            omega (arith, get_or-map (λ (row : CordRow). row.level) cords c no_cord_row, ap (λ (l : List ℕ). at l c) rows.levels, lists_first.of_cords.ranked c (count c l));
       })
 
   -- What the limits have over the lows.
@@ -199,7 +199,7 @@ module _ {r : Room} (ok : Accepted r) {demands parents spare : List ℕ} {cords 
       over = λ n l. over n l ∙ spared.over n l;
     }
 
-  module _ {bounds : List Level} {order : List ℕ} {actives : List (List ℕ)} (listed : LevelLists parents (column node_column cords) (column level_column cords) bounds order actives) where
+  module _ {bounds : List Level} {order : List ℕ} {actives : List (List ℕ)} (listed : LevelLists parents (nodes_in cords) (levels_in cords) bounds order actives) where
     by_level : LevelLists parents nodes (levels_of r) bounds order actives
     by_level = rw (of.nodes_are, sym rows.nodes, sym rows.levels) listed
 
@@ -249,31 +249,31 @@ module _ {r : Room} (ok : Accepted r) {demands parents spare : List ℕ} {cords 
         most = λ v h. rw of.lists.cords_are.needs_are ((bounded r ok demands).needs v (omega (arith, needs_size)));
       }
 
-  pub usable_are : (grants : List ℕ) {watts : List ℕ} → watts ≡ usable_from scale (column share_column cords) (column server_column cords) needed grants → watts ≡ usable r (needs r demands) grants
+  pub usable_are : (grants : List ℕ) {watts : List ℕ} → watts ≡ usable_from scale (shares_in cords) (servers_in cords) needed grants → watts ≡ usable r (needs r demands) grants
   usable_are grants e =
       e ∙ rw (of.scale_is, rows.shares, rows.servers) (usable_is r needed grants needs_size) ∙ ap (λ (n : List ℕ). usable r n grants) of.lists.cords_are.needs_are
 
   -- After the first deal, with its grants and what the servers can use of them.
-  module _ {grants watts : List ℕ} (dealt : grants ≡ first_grants r demands) (by : watts ≡ usable_from scale (column share_column cords) (column server_column cords) needed grants) where
+  module _ {grants watts : List ℕ} (dealt : grants ≡ first_grants r demands) (by : watts ≡ usable_from scale (shares_in cords) (servers_in cords) needed grants) where
     pub reclaim_asks : {grant_count : ℕ} → grant_count ≡ length nodes → ServerLists scale cords watts grant_count
     reclaim_asks g = rw by (usable-lists grants (server-lists g))
 
-    pub first-used : {used : List ℕ} → used ≡ used_from scale (column share_column cords) (column server_column cords) watts → used ≡ first_used r demands
+    pub first-used : {used : List ℕ} → used ≡ used_from scale (shares_in cords) (servers_in cords) watts → used ≡ first_used r demands
     unfolding first_used first_usable
     first-used e =
         e ∙ rw (of.scale_is, rows.shares, rows.servers) (carried_is r watts) ∙ ap (carried_by r) (usable_are grants by ∙ ap (usable r (needs r demands)) dealt)
 
-    pub freed_is : {freed : ℕ} → freed ≡ freed_from scale (column share_column cords) (column server_column cords) watts grants → freed ≡ second.freed r demands
+    pub freed_is : {freed : ℕ} → freed ≡ freed_from scale (shares_in cords) (servers_in cords) watts grants → freed ≡ second.freed r demands
     unfolding second.freed
     freed_is e = e ∙ rw (first-used refl, dealt) (ap sum_of (stranded_is r (first_used r demands) (first_grants r demands) used_size))
 
-    pub second-wants : {given : List ℕ} → given ≡ wants_from (used_from scale (column share_column cords) (column server_column cords) watts) grants wants → given ≡ second_wants r demands
+    pub second-wants : {given : List ℕ} → given ≡ wants_from (used_from scale (shares_in cords) (servers_in cords) watts) grants wants → given ≡ second_wants r demands
     unfolding second_wants
     second-wants e =
         e ∙ rw (first-used refl, dealt, of.lists.cords_are.wants_are) (wants_is r (first_used r demands) (first_grants r demands) used_size (first_wants r demands))
 
   -- After the second: the caps.
-  pub caps_are : {grants caps : List ℕ} → grants ≡ second_grants r demands → caps ≡ usable_from scale (column share_column cords) (column server_column cords) needed grants
+  pub caps_are : {grants caps : List ℕ} → grants ≡ second_grants r demands → caps ≡ usable_from scale (shares_in cords) (servers_in cords) needed grants
       → caps ≡ second.caps r demands
   unfolding second.caps
   caps_are {grants} dealt e = usable_are grants e ∙ ap (usable r (needs r demands)) dealt

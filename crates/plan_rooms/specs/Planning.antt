@@ -5,6 +5,7 @@ use Rattle.rooms.specs.Part.{good}
 use Rattle.rooms.specs.Table.{Room}
 use Rattle.rooms.specs.Limits.{checked}
 use Rattle.rooms.specs.Lists.{nodes_of}
+use Rattle.rooms.specs.declared.lists.CordRow.{CordRow}
 use Rattle.deals.specs.SecondDeal.{freed, second_deal, second_wants}
 use Rattle.deals.specs.SecondDeal as second
 use Rattle.deals.specs.Headroom as lending
@@ -18,14 +19,14 @@ use Rattle.layout.specs.declared.room.Counts.{Counts}
 -- ---- Both deals
 
 -- The lists are those of a room, with given demands, the numbers of its cords' nodes, and its scale. Of the ceilings nothing is asked.
-pub record RoomToDeal (r : Room) (demands parents spare : List ℕ) (cords : List (List ℕ)) (nodes lows wants needed : List ℕ)
+pub record RoomToDeal (r : Room) (demands parents spare : List ℕ) (cords : List CordRow) (nodes lows wants needed : List ℕ)
     (scale : ℕ) : Type 0 where
   pub lists : RoomLists r demands parents spare cords lows wants (lending.ceilings_of r) needed
   pub nodes_are : nodes ≡ nodes_of r
   pub scale_is : scale ≡ r.scale
 
 -- They are those of the room of some good table with some demands.
-pub record SomeRoom (parents spare : List ℕ) (cords : List (List ℕ)) (nodes lows wants needed : List ℕ) (scale : ℕ) : Type 0 where
+pub record SomeRoom (parents spare : List ℕ) (cords : List CordRow) (nodes lows wants needed : List ℕ) (scale : ℕ) : Type 0 where
   pub table : List ℕ
   pub demands : List ℕ
   pub room : Room
@@ -43,7 +44,7 @@ pub record DealtTwice (r : Room) (demands : List ℕ) (watts : ℕ) (wants left 
 -- ---- The plan
 
 -- The lists of a room, loaded, and its counts: `headroom` has the cords' ceilings, and `caps` the servers' needs.
-pub record PlanGiven (table demands : List ℕ) (r : Room) (counts : Counts) (parents spare : List ℕ) (cords : List (List ℕ))
+pub record PlanGiven (table demands : List ℕ) (r : Room) (counts : Counts) (parents spare : List ℕ) (cords : List CordRow)
     (lows wants headroom caps : List ℕ) : Type 0 where
   pub end : ℕ
   pub is : checked table 0 ≡ good r end
@@ -51,7 +52,7 @@ pub record PlanGiven (table demands : List ℕ) (r : Room) (counts : Counts) (pa
   pub loaded : RoomLoaded r demands parents spare cords lows wants headroom caps
 
 -- They are those of some good table with some demands.
-pub record SomePlan (counts : Counts) (parents spare : List ℕ) (cords : List (List ℕ)) (lows wants headroom caps : List ℕ) : Type 0 where
+pub record SomePlan (counts : Counts) (parents spare : List ℕ) (cords : List CordRow) (lows wants headroom caps : List ℕ) : Type 0 where
   pub table : List ℕ
   pub demands : List ℕ
   pub room : Room

@@ -18,6 +18,7 @@ use plan_headroom::lend;
 use plan_holders::name_holders;
 use plan_reclaim::raise::raise_starts;
 use plan_reclaim::{reclaim, usable_of};
+use rooms::lists::CordRow;
 
 // Both deals, in turn: the first starts from the cords' lows, the second from the watts in use after it. Gives the watts freed between
 // them. `left` comes with what each limit has over the lows beneath it, and leaves with what it has over the second deal's Requests;
@@ -25,7 +26,7 @@ use plan_reclaim::{reclaim, usable_of};
 // and its marks of cuts, are not used.
 fn deal_twice(
     parents: &[u16],
-    cords: &[[u16; 4]],
+    cords: &[CordRow],
     nodes: &[u16],
     lows: &[u32],
     wants: &mut [u32],
@@ -93,7 +94,7 @@ fn deal_twice(
 pub fn plan_loaded(
     counts: Counts,
     parents: &[u16],
-    cords: &[[u16; 4]],
+    cords: &[CordRow],
     lows: &mut [u32],
     wants: &mut [u32],
     left: &mut [u32],

@@ -15,6 +15,7 @@ use Rattle.figures.proofs.Stores.{sets-front, take-sets, drop-sets}
 use Rattle.rooms.specs.Part.{Step, good, bad}
 use Rattle.rooms.specs.Table.{Room, room_cords}
 use Rattle.rooms.specs.Limits.{checked}
+use Rattle.rooms.specs.declared.lists.CordRow.{CordRow}
 use Rattle.rooms.proofs.Accepted.{Accepted}
 use Rattle.deals.specs.Wants.{needs}
 use Rattle.deals.specs.Plan.{Plan, plan_of, output, count, entries, Lists, PlanReason, first_too_large, count_differs, demand_too_large, list_reasons, reasons, plan}
@@ -173,14 +174,14 @@ module _ (table demands : List ℕ) (lengths : Lengths) {loaded : Result Counts 
 
 -- What `plan_loaded` asks of a room's lists.
 pub plan-given : {table demands : List ℕ} {lengths : Lengths} {counts : Counts} (a : Admitted table demands lengths counts)
-    {parents spare : List ℕ} {cords : List (List ℕ)} {lows wants headroom caps : List ℕ}
+    {parents spare : List ℕ} {cords : List CordRow} {lows wants headroom caps : List ℕ}
     → RoomLoaded a.room_found.room demands parents spare cords lows wants headroom caps
     → PlanGiven table demands a.room_found.room counts parents spare cords lows wants headroom caps
 plan-given a lists = let f = a.room_found in record { end = f.end; is = f.is; counted = f.counted; loaded = lists }
 
 -- ---- Lists that are copied before they are planned in
 
-module _ {r : Room} {demands : List ℕ} (parents spare : List ℕ) (cords : List (List ℕ)) (lows wants ceilings needed : List ℕ)
+module _ {r : Room} {demands : List ℕ} (parents spare : List ℕ) (cords : List CordRow) (lows wants ceilings needed : List ℕ)
     (ok : Accepted r) (lists : RoomLoaded r demands parents spare cords lows wants ceilings needed) where
   pub ceilings_size : length (take (room_cords r) ceilings) ≡ room_cords r
   ceilings_size = ap length lists.cords_are.ceilings_are ∙ ceilings_count r ok demands

@@ -10,6 +10,7 @@ ghost use Rattle.plans.specs.Done.{PlanDone};
 use deals::{Lengths, PlanList, PlanRefusal};
 use layout::room::{Counts, LoadRefusal, load_room};
 use plan_rooms::plan_loaded;
+use rooms::lists::NO_CORD;
 
 // A list of so many entries, where so many are needed.
 fn enough(list: PlanList, entries: usize, needed: usize) -> Result<(), PlanRefusal>
@@ -52,7 +53,7 @@ pub fn plan(
 {
     let mut parents = [0u16; 512];
     let mut left = [0u32; 512];
-    let mut cords = [[0u16; 4]; 1024];
+    let mut cords = [NO_CORD; 1024];
     let mut lows = [0u32; 1024];
     let mut wants = [0u32; 1024];
     let mut ceilings = [0u32; 1024];

@@ -4,13 +4,12 @@ use mathlib.Core.List.{List, ◌++◌}
 use Prim.Native.Nat.{ℕ, min}
 use native.Mathlib.Nat.{zero-add}
 use native.Mathlib.Omega.{arith}
-use lib.ListN.{length}
-use Rattle.figures.proofs.Columns.{column-length}
+use lib.ListN.{length, length-map}
 use Rattle.figures.proofs.Lists.{figures-length}
 use Rattle.rooms.specs.Table.{most_servers, room_cords}
+use Rattle.rooms.specs.declared.lists.ServerRow.{ServerRow}
 use Rattle.rooms.proofs.All.{all_at}
 use Rattle.rooms.proofs.Accepted.{ServerAccepted, accepted}
-use Rattle.rooms.specs.Rows.{rank_column}
 use Rattle.print.specs.Line.{freed_line}
 use Rattle.print.specs.Print.{plan_line, print_of}
 use Rattle.print.specs.Walk.{plan_print}
@@ -22,7 +21,7 @@ unfolding plan_print print_of
 prints_room table room end freed servers cords caps grants headroom held e sr cr =
     let ok = accepted table room end e in
     let size : length servers ≡ length room.servers
-    = sym (column-length rank_column servers) ∙ ap length sr.ranks ∙ figures-length (length room.servers) _ in
+    = sym (length-map servers (λ (row : ServerRow). row.rank)) ∙ ap length sr.ranks ∙ figures-length (length room.servers) _ in
     let all : min (length servers) most_servers ≡ length room.servers = omega (arith, ok.few_servers) in
     rw all
     (ap (λ (l : List ℕ). freed_line freed ++ l)

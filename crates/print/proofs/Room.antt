@@ -4,17 +4,18 @@ use mathlib.Core.List.{List, [], ◌∷◌, ◌++◌}
 use Prim.Native.Nat.{ℕ, zero, suc, ◌+◌, ◌≤◌, ◌<◌}
 use native.Mathlib.Omega.{arith}
 use native.Mathlib.Numerals.{add-one}
-use lib.ListN.{length, get_or, drop, get_or-append}
+use lib.ListN.{length, get_or, drop, get_or-append, get_or-map}
 use lib.Seq.{sets, get_or-take, take-length, drop-cons, drop-drop, drop_at, get_or-drop}
 use Rattle.figures.proofs.Stores.{take-sets}
-use Rattle.figures.specs.Figures.{total, cell}
+use Rattle.figures.specs.Figures.{total}
 use Rattle.figures.proofs.Lists.{figures-at}
-use Rattle.figures.proofs.Columns.{column-at}
 use Rattle.rooms.specs.Table.{Server, Room, most_server_cords, cord_count, room_cords}
 use Rattle.rooms.specs.Cords.{RoomCord, server_cords, cords_from, cords_of, cord_at, server_at}
 use Rattle.rooms.specs.Lists.{nodes_of}
 use Rattle.rooms.proofs.Cords.{no_room_cord, no_server, server_cords-length}
-use Rattle.rooms.specs.Rows.{cord_count_column, node_column, ServerRows, CordRows}
+use Rattle.rooms.specs.Rows.{cord_row_at, server_row_at, no_cord_row, no_server_row, ServerRows, CordRows}
+use Rattle.rooms.specs.declared.lists.CordRow.{CordRow}
+use Rattle.rooms.specs.declared.lists.ServerRow.{ServerRow}
 use Rattle.rooms.proofs.Walk.{server_cords-at}
 use Rattle.print.specs.Line.{freed_line, server_line}
 use Rattle.print.specs.Print.{lines_from, at, node_at, server_print, servers_print, plan_line, print_of}
@@ -38,17 +39,17 @@ server_print-same number cap count line line' same =
 -- ---- the servers
 
 -- The nodes of a server's cords, by their places among the room's.
-module _ (r : Room) (servers : List (List ℕ)) {cords : List (List ℕ)} (caps : List ℕ) (line : ℕ → ℕ → ℕ → List ℕ) (sr : ServerRows r servers) (cr : CordRows r cords)
+module _ (r : Room) (servers : List ServerRow) {cords : List CordRow} (caps : List ℕ) (line : ℕ → ℕ → ℕ → List ℕ) (sr : ServerRows r servers) (cr : CordRows r cords)
     (few : (v : ℕ) → v < length r.servers → cord_count (server_at r v) ≤ most_server_cords) where
   count_at : (v : ℕ) → v < length r.servers → cords_at servers v ≡ cord_count (server_at r v)
   count_at v h =
-      let is : cell servers v cord_count_column ≡ cord_count (server_at r v)
-      = sym (column-at cord_count_column servers v) ∙ ap (λ (l : List ℕ). at l v) sr.counts ∙ figures-at (length r.servers) v _ h in
+      let is : (server_row_at servers v).cords ≡ cord_count (server_at r v)
+      = sym (get_or-map (λ (row : ServerRow). row.cords) servers v no_server_row) ∙ ap (λ (l : List ℕ). at l v) sr.counts ∙ figures-at (length r.servers) v _ h in
       omega (arith, is, few v h)
 
-  node_stands : (c : ℕ) → c < room_cords r → cell cords c node_column ≡ (cord_at r c).node
+  node_stands : (c : ℕ) → c < room_cords r → (cord_row_at cords c).node ≡ (cord_at r c).node
   unfolding nodes_of
-  node_stands c h = sym (column-at node_column cords c) ∙ ap (λ (l : List ℕ). at l c) cr.nodes ∙ figures-at (room_cords r) c _ h
+  node_stands c h = sym (get_or-map (λ (row : CordRow). row.node) cords c no_cord_row) ∙ ap (λ (l : List ℕ). at l c) cr.nodes ∙ figures-at (room_cords r) c _ h
 
   -- One server and its cords, at place c of the room's.
   module _ (v c : ℕ) (s : Server) (rest : List Server) (split : drop v r.servers ≡ s ∷ rest) (cords_are : drop c (cords_of r) ≡ cords_from v (s ∷ rest))
@@ -68,7 +69,7 @@ module _ (r : Room) (servers : List (List ℕ)) {cords : List (List ℕ)} (caps 
     unfolding total
     total_is = left
 
-    node-of : (k : ℕ) → k < cord_count s → cell cords (c + k) node_column ≡ node_at s.cords k
+    node-of : (k : ℕ) → k < cord_count s → (cord_row_at cords (c + k)).node ≡ node_at s.cords k
     node-of k h =
         node_stands (c + k) (omega (arith, total_is))
         ∙ ap (λ (x : RoomCord). x.node)

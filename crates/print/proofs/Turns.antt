@@ -5,6 +5,8 @@ use Prim.Native.Nat.{ℕ, suc, ◌+◌, ◌-◌, ◌*◌, ◌≤◌, ◌<◌, mi
 use native.Mathlib.Omega.{arith}
 use lib.ListN.{length}
 use Rattle.rooms.specs.Table.{most_servers}
+use Rattle.rooms.specs.declared.lists.CordRow.{CordRow}
+use Rattle.rooms.specs.declared.lists.ServerRow.{ServerRow}
 use Rattle.print.specs.Line.{server_line, Put}
 use Rattle.print.specs.Print.{lines_from, at, server_print}
 use Rattle.print.specs.Walk.{cord_line_at, cords_at, servers_at, walk_print}
@@ -40,14 +42,14 @@ module _ (line : ℕ → List ℕ) where
 
 -- The walk over the servers, at its place v: what is put, followed by the servers that are left, is the whole; the first grant is no
 -- further than so many servers can take it.
-pub record Walking (servers cords : List (List ℕ)) (caps : List ℕ) (line : ℕ → ℕ → ℕ → List ℕ) (a : List ℕ) (start count : ℕ) (b : List ℕ) (first next v : ℕ) : Type 0 where
+pub record Walking (servers : List ServerRow) (cords : List CordRow) (caps : List ℕ) (line : ℕ → ℕ → ℕ → List ℕ) (a : List ℕ) (start count : ℕ) (b : List ℕ) (first next v : ℕ) : Type 0 where
   pub bound : v ≤ count
   pub most : count ≤ most_servers
   pub first_bound : first ≤ 4 * v
   pub put : Putting a start b next (servers_at servers cords caps line (count - v) v first) (servers_at servers cords caps line count 0 0)
   pub size : length b ≡ length a
 
-module _ (servers cords : List (List ℕ)) (caps : List ℕ) (line : ℕ → ℕ → ℕ → List ℕ) (a : List ℕ) (start count : ℕ) where
+module _ (servers : List ServerRow) (cords : List CordRow) (caps : List ℕ) (line : ℕ → ℕ → ℕ → List ℕ) (a : List ℕ) (start count : ℕ) where
   pub walking_first : start ≤ length a → count ≤ most_servers → Walking servers cords caps line a start count a 0 start 0
   walking_first h k =
       let all : count - 0 ≡ count = omega arith in
@@ -79,7 +81,7 @@ module _ (servers cords : List (List ℕ)) (caps : List ℕ) (line : ℕ → ℕ
       }
 
 -- No server is left.
-pub walked : {servers cords : List (List ℕ)} {caps : List ℕ} {line : ℕ → ℕ → ℕ → List ℕ} {a : List ℕ} {start count : ℕ} {b : List ℕ} {first next v : ℕ}
+pub walked : {servers : List ServerRow} {cords : List CordRow} {caps : List ℕ} {line : ℕ → ℕ → ℕ → List ℕ} {a : List ℕ} {start count : ℕ} {b : List ℕ} {first next v : ℕ}
     → Walking servers cords caps line a start count b first next v → count ≤ v → count ≡ min (length servers) most_servers
     → Put a start b next (walk_print servers cords caps line)
 unfolding servers_at

@@ -6,13 +6,12 @@ ghost use Rattle.io.specs.Counts.{IsPrefixLen};
 ghost use Rattle.print.specs.Line.{decimal, labelled, freed_line, server_line, cord_line, refused_line, Put};
 ghost use Rattle.print.specs.Print.{lines_from, at, plan_line, print_of};
 ghost use Rattle.print.specs.Walk.{cord_line_at, walk_print, plan_print};
-ghost use Rattle.figures.specs.Figures.{cell};
 ghost use Rattle.rooms.specs.Part.{Good};
 ghost use Rattle.rooms.specs.Limits.{checked};
-ghost use Rattle.rooms.specs.Rows.{OfRoom, ServersFit, CordsFit, node_column};
+ghost use Rattle.rooms.specs.Rows.{cord_row_at, OfRoom, ServersFit, CordsFit};
 
 use outcomes::Refusal;
-use rooms::lists::{CORD_COUNT, NODE};
+use rooms::lists::{CordRow, NO_CORD, NO_SERVER, ServerRow};
 use rooms::{MOST_CORDS, MOST_SERVER_CORDS, MOST_SERVERS};
 
 // The lists of a plan: a cap for each server; and for each cord a grant, its headroom, and the node that holds it.
@@ -31,8 +30,8 @@ pub fn plan(freed: u64, table: &[u32], lists: Lists, buffer: &mut [u8]) -> usize
         (print_of freed room.servers lists.entry.caps.now lists.entry.grants.now lists.entry.headroom.now lists.entry.held.now)) }
     ensures counts { IsPrefixLen result buffer.new }
 {
-    let mut servers = [[0u32; 4]; MOST_SERVERS];
-    let mut cords = [[0u16; 4]; MOST_CORDS];
+    let mut servers = [NO_SERVER; MOST_SERVERS];
+    let mut cords = [NO_CORD; MOST_CORDS];
     let server_count = rooms::lists::server_count(table);
     let cord_count = rooms::lists::cord_count(table);
     plan_by(
@@ -49,8 +48,8 @@ pub fn plan(freed: u64, table: &[u32], lists: Lists, buffer: &mut [u8]) -> usize
 fn plan_by(
     freed: u64,
     table: &[u32],
-    servers: &mut [[u32; 4]],
-    cords: &mut [[u16; 4]],
+    servers: &mut [ServerRow],
+    cords: &mut [CordRow],
     lists: Lists,
     buffer: &mut [u8],
 ) -> usize
@@ -67,8 +66,8 @@ fn plan_by(
 // The print of a plan by the rows of its servers and cords.
 fn put_plan(
     freed: u64,
-    servers: &[[u32; 4]],
-    cords: &[[u16; 4]],
+    servers: &[ServerRow],
+    cords: &[CordRow],
     lists: Lists,
     buffer: &mut [u8],
 ) -> usize
@@ -92,8 +91,8 @@ pub fn refusal<R: Refusal>(refusal: R, buffer: &mut [u8]) -> usize
 
 // The lines of all servers and their cords.
 fn put_servers(
-    servers: &[[u32; 4]],
-    cords: &[[u16; 4]],
+    servers: &[ServerRow],
+    cords: &[CordRow],
     lists: Lists,
     buffer: &mut [u8],
     start: usize,
@@ -107,7 +106,7 @@ fn put_servers(
     let mut first = 0;
     let mut next = start;
     for (v, server) in servers[..count].iter().enumerate() {
-        let few = (server[CORD_COUNT] as usize).min(MOST_SERVER_CORDS);
+        let few = (server.cords as usize).min(MOST_SERVER_CORDS);
         next = put_server((v + 1) as u64, figure(lists.caps, v), buffer, next);
         next = put_cords(few, cords, lists, first, buffer, next);
         first += few;
@@ -118,7 +117,7 @@ fn put_servers(
 // The lines of a server's cords, whose rows and figures start at `first`.
 fn put_cords(
     count: usize,
-    cords: &[[u16; 4]],
+    cords: &[CordRow],
     lists: Lists,
     first: usize,
     buffer: &mut [u8],
@@ -145,10 +144,10 @@ fn put_cords(
 }
 
 // The node of the cord at a place; 0 past the last.
-fn node(cords: &[[u16; 4]], place: usize) -> u64
-    ensures result { result ≡ cell cords.now place node_column }
+fn node(cords: &[CordRow], place: usize) -> u64
+    ensures result { result ≡ (cord_row_at cords.now place).node }
 {
-    cords.get(place).map_or(0, |row| u64::from(row[NODE]))
+    cords.get(place).map_or(0, |row| u64::from(row.node))
 }
 
 // The figure at a place of a list; 0 past its end.

@@ -1,15 +1,11 @@
 -- The turns of the loops that lay out a good table's servers: before each turn the rows have the figures of the servers and cords passed.
 use mathlib.Core.Path.{◌≡◌, refl, sym, ap, ◌∙◌}
-use mathlib.Core.Bool.{Bool, true, false}
-use mathlib.Core.List.{List, [], ◌∷◌}
+use mathlib.Core.List.{List, map}
 use Prim.Native.Nat.{ℕ, ◌+◌, ◌-◌, ◌*◌, ◌^◌, ◌≤◌, ◌<◌}
 use native.Mathlib.Omega.{arith}
-use lib.ListN.{length, get_or, set, length-set}
-use lib.Seq.{get_or-set_same, get_or-set_other}
-use lib.Dec.{eqb}
-use borrow.Author.Tests.{eqb-true, eqb-false}
-use Rattle.figures.specs.Figures.{at, column}
-use Rattle.figures.proofs.Columns.{column-length, column-set}
+use lib.ListN.{length, set, length-map, length-set}
+use lib.Seq.{map-set}
+use Rattle.figures.specs.Figures.{at}
 use Rattle.figures.proofs.Filled.{Filled, filled_none, filled_one, filled_all}
 use Rattle.rooms.specs.Part.{good, Good}
 use Rattle.rooms.specs.Table.{Room, most_servers, most_cords, highest_rank, cord_count, room_cords}
@@ -17,51 +13,35 @@ use Rattle.rooms.specs.Limits.{checked}
 use Rattle.rooms.specs.Cords.{RoomCord, cord_at, server_at, rank_of}
 use Rattle.rooms.specs.Lists.{nodes_of, levels_of}
 use Rattle.rooms.proofs.Accepted.{accepted}
-use Rattle.rooms.specs.Rows.{ServersFit, CordsFit, rank_column, least_column, greatest_column, cord_count_column, node_column, server_column, level_column, share_column, row_width, ServerRows, CordRows}
+use Rattle.rooms.specs.Rows.{ServersFit, CordsFit, ranks_in, leasts_in, greatests_in, counts_in, nodes_in, servers_in, levels_in, shares_in, ServerRows, CordRows}
+use Rattle.rooms.specs.declared.lists.ServerRow.{ServerRow}
+use Rattle.rooms.specs.declared.lists.CordRow.{CordRow}
 use Rattle.rooms.specs.Walk.{servers_index}
 use Rattle.rooms.proofs.Walk.{begun, Walk, CordHere, ServerHere, walk_start, walk_server, walk_end}
 
--- A row that is stored, with a figure of one of its columns, fills that column by one more.
-column_filled : {g : ℕ → ℕ} {size c : ℕ} (rows : List (List ℕ)) (k : ℕ) (row : List ℕ) → Filled g size c (column k rows) → c < size → at row k ≡ g c
-    → Filled g size (c + 1) (column k (set rows c row))
-column_filled rows k row f h e = rw (column-set k rows _ row) (filled_one (at row k) f h e)
-
--- The rows before place c have their width.
-abbrev Wide : ℕ → List (List ℕ) → Type 0
-Wide c rows = (h : ℕ) → h < c → length (get_or rows h []) ≡ row_width
-
--- One more row of that width.
-wide_one : (rows : List (List ℕ)) (c : ℕ) (row : List ℕ) → Wide c rows → c < length rows → length row ≡ row_width → Wide (c + 1) (set rows c row)
-wide_one rows c row wide here e h l = go (eqb c h) refl
-  where
-    go : (t : Bool) → eqb c h ≡ t → length (get_or (set rows c row) h []) ≡ row_width
-    go true q =
-        let same : c ≡ h = eqb-true c h q in
-        rw (← same) (ap length (get_or-set_same rows c row [] here) ∙ e)
-    go false q =
-        let other : c ≡ h → ⊥ = eqb-false c h q in
-        ap length (get_or-set_other rows c h row [] (λ z. other (sym z))) ∙ wide h (omega arith)
+-- A row that is stored, with a figure of it, fills the list of that figure by one more.
+list_filled : {A : Type 0} {g : ℕ → ℕ} {size c : ℕ} (figure : A → ℕ) (rows : List A) (row : A) → Filled g size c (map figure rows) → c < size → figure row ≡ g c
+    → Filled g size (c + 1) (map figure (set rows c row))
+list_filled figure rows row f h e = rw (map-set figure rows _ row) (filled_one (figure row) f h e)
 
 -- The walk stands before the server at place v, whose cords stand from place `first` on; the rows of the servers before it and of the
 -- cords before place c are laid out.
-pub record Laying (table : List ℕ) (v start first c : ℕ) (servers cords : List (List ℕ)) : Type 0 where
+pub record Laying (table : List ℕ) (v start first c : ℕ) (servers : List ServerRow) (cords : List CordRow) : Type 0 where
   pub room : Room
   pub end : ℕ
   pub read : checked table 0 ≡ good room end
   pub walk : Walk table room v start first
-  pub ranks : Filled (λ h. (server_at room h).rank) (length room.servers) v (column rank_column servers)
-  pub leasts : Filled (λ h. (server_at room h).least) (length room.servers) v (column least_column servers)
-  pub greatests : Filled (λ h. (server_at room h).greatest) (length room.servers) v (column greatest_column servers)
-  pub counts : Filled (λ h. cord_count (server_at room h)) (length room.servers) v (column cord_count_column servers)
-  pub servers_wide : Wide v servers
-  pub nodes : Filled (λ h. (cord_at room h).node) (room_cords room) c (column node_column cords)
-  pub places : Filled (λ h. (cord_at room h).server) (room_cords room) c (column server_column cords)
-  pub levels : Filled (λ h. rank_of room h - 1) (room_cords room) c (column level_column cords)
-  pub shares : Filled (λ h. (cord_at room h).share) (room_cords room) c (column share_column cords)
-  pub cords_wide : Wide c cords
+  pub ranks : Filled (λ h. (server_at room h).rank) (length room.servers) v (ranks_in servers)
+  pub leasts : Filled (λ h. (server_at room h).least) (length room.servers) v (leasts_in servers)
+  pub greatests : Filled (λ h. (server_at room h).greatest) (length room.servers) v (greatests_in servers)
+  pub counts : Filled (λ h. cord_count (server_at room h)) (length room.servers) v (counts_in servers)
+  pub nodes : Filled (λ h. (cord_at room h).node) (room_cords room) c (nodes_in cords)
+  pub places : Filled (λ h. (cord_at room h).server) (room_cords room) c (servers_in cords)
+  pub levels : Filled (λ h. rank_of room h - 1) (room_cords room) c (levels_in cords)
+  pub shares : Filled (λ h. (cord_at room h).share) (room_cords room) c (shares_in cords)
 
 -- Within that server: the words of the cord at place c start at index `word`.
-pub record LayingServer (table : List ℕ) (v start first count c word : ℕ) (servers cords : List (List ℕ)) : Type 0 where
+pub record LayingServer (table : List ℕ) (v start first count c word : ℕ) (servers : List ServerRow) (cords : List CordRow) : Type 0 where
   pub laying : Laying table v start first c servers cords
   pub more : v < length servers
   pub counted : count ≡ at table (start + 3)
@@ -69,10 +49,10 @@ pub record LayingServer (table : List ℕ) (v start first count c word : ℕ) (s
   pub to : c ≤ first + count
   pub next : word + 2 * first ≡ start + 4 + 2 * c
 
-none_filled : {n : ℕ} (g : ℕ → ℕ) (k : ℕ) (rows : List (List ℕ)) → length rows ≡ n → Filled g n 0 (column k rows)
-none_filled g k rows e = rw (← e, ← column-length k rows) (filled_none g (column k rows))
+none_filled : {A : Type 0} {n : ℕ} (g : ℕ → ℕ) (figure : A → ℕ) (rows : List A) → length rows ≡ n → Filled g n 0 (map figure rows)
+none_filled g figure rows e = rw (← e, ← length-map rows figure) (filled_none g (map figure rows))
 
-pub laying_start : {table : List ℕ} {servers cords : List (List ℕ)} → (g : Good (checked table 0)) → ServersFit table (length servers) → CordsFit table (length cords)
+pub laying_start : {table : List ℕ} {servers : List ServerRow} {cords : List CordRow} → (g : Good (checked table 0)) → ServersFit table (length servers) → CordsFit table (length cords)
     → {i : ℕ} → i ≡ servers_index table + 1 → Laying table 0 i 0 0 servers cords
 laying_start {servers = servers} {cords = cords} g sf cf e =
     let s = sf g.value g.next g.is in
@@ -83,25 +63,23 @@ laying_start {servers = servers} {cords = cords} g sf cf e =
       end = g.next;
       read = g.is;
       walk = walk_start g.is;
-      ranks = none_filled _ rank_column servers s;
-      leasts = none_filled _ least_column servers s;
-      greatests = none_filled _ greatest_column servers s;
-      counts = none_filled _ cord_count_column servers s;
-      servers_wide = λ h l. absurd (omega arith);
-      nodes = none_filled _ node_column cords k;
-      places = none_filled _ server_column cords k;
-      levels = none_filled _ level_column cords k;
-      shares = none_filled _ share_column cords k;
-      cords_wide = λ h l. absurd (omega arith);
+      ranks = none_filled _ (λ (row : ServerRow). row.rank) servers s;
+      leasts = none_filled _ (λ (row : ServerRow). row.least) servers s;
+      greatests = none_filled _ (λ (row : ServerRow). row.greatest) servers s;
+      counts = none_filled _ (λ (row : ServerRow). row.cords) servers s;
+      nodes = none_filled _ (λ (row : CordRow). row.node) cords k;
+      places = none_filled _ (λ (row : CordRow). row.server) cords k;
+      levels = none_filled _ (λ (row : CordRow). row.level) cords k;
+      shares = none_filled _ (λ (row : CordRow). row.share) cords k;
     })
 
-module _ {table : List ℕ} {v start first c : ℕ} {servers cords : List (List ℕ)}
+module _ {table : List ℕ} {v start first c : ℕ} {servers : List ServerRow} {cords : List CordRow}
     (laying : Laying table v start first c servers cords) where
   pub served : length servers ≡ length laying.room.servers
-  served = sym (column-length rank_column servers) ∙ laying.ranks.size_is
+  served = sym (length-map servers (λ (row : ServerRow). row.rank)) ∙ laying.ranks.size_is
 
   pub corded : length cords ≡ room_cords laying.room
-  corded = sym (column-length node_column cords) ∙ laying.nodes.size_is
+  corded = sym (length-map cords (λ (row : CordRow). row.node)) ∙ laying.nodes.size_is
 
   pub laying_end : length servers ≤ v → first ≤ c → (r : Room) (end : ℕ) → checked table 0 ≡ good r end → ServerRows r servers × CordRows r cords
   unfolding nodes_of levels_of
@@ -116,14 +94,12 @@ module _ {table : List ℕ} {v start first c : ℕ} {servers cords : List (List 
           leasts = filled_all _ _ laying.leasts refl s (λ i l. refl);
           greatests = filled_all _ _ laying.greatests refl s (λ i l. refl);
           counts = filled_all _ _ laying.counts refl s (λ i l. refl);
-          widths = λ i l. laying.servers_wide i (omega arith);
         },
         record {
           nodes = filled_all _ _ laying.nodes refl n (λ i l. refl);
           servers = filled_all _ _ laying.places refl n (λ i l. refl);
           levels = filled_all _ _ laying.levels refl n (λ i l. refl);
           shares = filled_all _ _ laying.shares refl n (λ i l. refl);
-          widths = λ i l. laying.cords_wide i (omega (arith, corded));
         },
       )
 
@@ -138,14 +114,14 @@ module _ {table : List ℕ} {v start first c : ℕ} {servers cords : List (List 
     few-cords = omega (arith, laying_server.cords-within, (begun laying.read).cords_most)
 
 -- What code relies on at a cord.
-pub record CordFits (table : List ℕ) (v c word : ℕ) (cords : List (List ℕ)) : Type 0 where
+pub record CordFits (table : List ℕ) (v c word : ℕ) (cords : List CordRow) : Type 0 where
   pub there : word + 1 < length table
   pub in_cords : c < length cords
 
 walk_to : {table : List ℕ} {r : Room} {v i j c d : ℕ} → i ≡ j → c ≡ d → Walk table r v j d → Walk table r v i c
 walk_to e f walk = rw (e, f) walk
 
-module _ {table : List ℕ} {v start first count c word : ℕ} {servers cords : List (List ℕ)}
+module _ {table : List ℕ} {v start first count c word : ℕ} {servers : List ServerRow} {cords : List CordRow}
     (server : LayingServer table v start first count c word servers cords) where
   abbrev laying : Laying table v start first c servers cords
   laying = server.laying
@@ -196,11 +172,10 @@ module _ {table : List ℕ} {v start first count c word : ℕ} {servers cords : 
         )
 
     -- One cord more.
-    pub server-cord : {row : List ℕ} → row ≡ at table word ∷ v ∷ (at table start - 1) ∷ at table (word + 1) ∷ []
+    pub server-cord : {row : CordRow} → row ≡ record { node = at table word; server = v; level = at table start - 1; share = at table (word + 1) }
         → LayingServer table v start first count (c + 1) (word + 2) servers (set cords c row)
     server-cord {row} e =
         let standing = laying_server laying server.more in
-        let cell : (k : ℕ) → at row k ≡ at (at table word ∷ v ∷ (at table start - 1) ∷ at table (word + 1) ∷ []) k = λ k. ap (λ (l : List ℕ). at l k) e in
         record {
           laying = record {
             room = r;
@@ -211,14 +186,12 @@ module _ {table : List ℕ} {v start first count c word : ℕ} {servers cords : 
             leasts = laying.leasts;
             greatests = laying.greatests;
             counts = laying.counts;
-            servers_wide = laying.servers_wide;
-            nodes = column_filled cords node_column row laying.nodes within (cell node_column ∙ ap (λ (x : RoomCord). x.node) is);
-            places = column_filled cords server_column row laying.places within (cell server_column ∙ ap (λ (x : RoomCord). x.server) is);
+            nodes = list_filled (λ (row : CordRow). row.node) cords row laying.nodes within (ap (λ (row : CordRow). row.node) e ∙ ap (λ (x : RoomCord). x.node) is);
+            places = list_filled (λ (row : CordRow). row.server) cords row laying.places within (ap (λ (row : CordRow). row.server) e ∙ ap (λ (x : RoomCord). x.server) is);
             levels =
-                column_filled cords level_column row laying.levels within
-                (cell level_column ∙ ap (λ (x : ℕ). x - 1) (sym standing.rank) ∙ ap (λ (x : RoomCord). (server_at r x.server).rank - 1) is);
-            shares = column_filled cords share_column row laying.shares within (cell share_column ∙ ap (λ (x : RoomCord). x.share) is);
-            cords_wide = wide_one cords c row laying.cords_wide (omega (arith, within, corded laying)) (ap length e);
+                list_filled (λ (row : CordRow). row.level) cords row laying.levels within
+                (ap (λ (row : CordRow). row.level) e ∙ ap (λ (x : ℕ). x - 1) (sym standing.rank) ∙ ap (λ (x : RoomCord). (server_at r x.server).rank - 1) is);
+            shares = list_filled (λ (row : CordRow). row.share) cords row laying.shares within (ap (λ (row : CordRow). row.share) e ∙ ap (λ (x : RoomCord). x.share) is);
           };
           more = server.more;
           counted = server.counted;
@@ -228,8 +201,8 @@ module _ {table : List ℕ} {v start first count c word : ℕ} {servers cords : 
         }
 
   -- The server is passed, after its cords: its row is stored.
-  abbrev row : List ℕ
-  row = at table start ∷ at table (start + 1) ∷ at table (start + 2) ∷ at table (start + 3) ∷ []
+  abbrev row : ServerRow
+  row = record { rank = at table start; least = at table (start + 1); greatest = at table (start + 2); cords = at table (start + 3) }
 
   pub server-end : first + count ≤ c → (length (set servers v row) ≡ length servers) × Laying table (v + 1) word (first + count) (first + count) (set servers v row) cords
   server-end h =
@@ -243,15 +216,13 @@ module _ {table : List ℕ} {v start first count c word : ℕ} {servers cords : 
           end = laying.end;
           read = laying.read;
           walk = walk_to w (ap (λ (k : ℕ). first + k) server.counted) standing.next;
-          ranks = column_filled servers rank_column row laying.ranks place (sym standing.rank);
-          leasts = column_filled servers least_column row laying.leasts place (sym standing.least);
-          greatests = column_filled servers greatest_column row laying.greatests place (sym standing.greatest);
-          counts = column_filled servers cord_count_column row laying.counts place (sym standing.count);
-          servers_wide = wide_one servers v row laying.servers_wide server.more refl;
+          ranks = list_filled (λ (row : ServerRow). row.rank) servers row laying.ranks place (sym standing.rank);
+          leasts = list_filled (λ (row : ServerRow). row.least) servers row laying.leasts place (sym standing.least);
+          greatests = list_filled (λ (row : ServerRow). row.greatest) servers row laying.greatests place (sym standing.greatest);
+          counts = list_filled (λ (row : ServerRow). row.cords) servers row laying.counts place (sym standing.count);
           nodes = rw all laying.nodes;
           places = rw all laying.places;
           levels = rw all laying.levels;
           shares = rw all laying.shares;
-          cords_wide = rw all laying.cords_wide;
         },
       )

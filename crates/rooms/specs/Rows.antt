@@ -1,10 +1,12 @@
 -- What is claimed of a good table's room, and a room's servers and cords as rows.
-use Rattle.std.specs.Prelude.{◌≡◌, List, [], ℕ, ◌<◌, length, get_or}
-use Rattle.figures.specs.Figures.{figures, at, column}
+use Rattle.std.specs.Prelude.{◌≡◌, List, ℕ, length, get_or, map}
+use Rattle.figures.specs.Figures.{figures, at}
 use Rattle.rooms.specs.Part.{good}
 use Rattle.rooms.specs.Table.{Room, cord_count, room_cords}
 use Rattle.rooms.specs.Limits.{checked, carried}
 use Rattle.rooms.specs.Cords.{server_at}
+use Rattle.rooms.specs.declared.lists.ServerRow.{ServerRow}
+use Rattle.rooms.specs.declared.lists.CordRow.{CordRow}
 use Rattle.rooms.specs.Lists.{nodes_of, levels_of, shares_of, servers_of}
 
 -- What is claimed of the room that a good table gives. Of any other list nothing is claimed.
@@ -24,35 +26,44 @@ CordsFit table size = OfRoom table (λ r. size ≡ room_cords r)
 abbrev pub ScaleIs : List ℕ → ℕ → Type 0
 ScaleIs table scale = OfRoom table (λ r. scale ≡ r.scale)
 
--- The columns of a server's row: its rank, its least, its greatest and its count of cords.
-abbrev pub rank_column : ℕ
-rank_column = 0
+-- The row at a place: past the last row its figures are 0.
+abbrev pub no_server_row : ServerRow
+no_server_row = record { rank = 0; least = 0; greatest = 0; cords = 0 }
 
-abbrev pub least_column : ℕ
-least_column = 1
+abbrev pub server_row_at : List ServerRow → ℕ → ServerRow
+server_row_at rows v = get_or rows v no_server_row
 
-abbrev pub greatest_column : ℕ
-greatest_column = 2
+abbrev pub no_cord_row : CordRow
+no_cord_row = record { node = 0; server = 0; level = 0; share = 0 }
 
-abbrev pub cord_count_column : ℕ
-cord_count_column = 3
+abbrev pub cord_row_at : List CordRow → ℕ → CordRow
+cord_row_at rows c = get_or rows c no_cord_row
 
--- The columns of a cord's row: the number of its node, the place of its server, its level and its share.
-abbrev pub node_column : ℕ
-node_column = 0
+-- The ranks, the leasts, the greatests and the counts of cords in servers' rows.
+abbrev pub ranks_in : List ServerRow → List ℕ
+ranks_in rows = map (λ (row : ServerRow). row.rank) rows
 
-abbrev pub server_column : ℕ
-server_column = 1
+abbrev pub leasts_in : List ServerRow → List ℕ
+leasts_in rows = map (λ (row : ServerRow). row.least) rows
 
-abbrev pub level_column : ℕ
-level_column = 2
+abbrev pub greatests_in : List ServerRow → List ℕ
+greatests_in rows = map (λ (row : ServerRow). row.greatest) rows
 
-abbrev pub share_column : ℕ
-share_column = 3
+abbrev pub counts_in : List ServerRow → List ℕ
+counts_in rows = map (λ (row : ServerRow). row.cords) rows
 
--- How many figures a server's row and a cord's row have.
-abbrev pub row_width : ℕ
-row_width = 4
+-- The numbers of the nodes, the places of the servers, the levels and the shares in cords' rows.
+abbrev pub nodes_in : List CordRow → List ℕ
+nodes_in rows = map (λ (row : CordRow). row.node) rows
+
+abbrev pub servers_in : List CordRow → List ℕ
+servers_in rows = map (λ (row : CordRow). row.server) rows
+
+abbrev pub levels_in : List CordRow → List ℕ
+levels_in rows = map (λ (row : CordRow). row.level) rows
+
+abbrev pub shares_in : List CordRow → List ℕ
+shares_in rows = map (λ (row : CordRow). row.share) rows
 
 -- What each cord carries where each server has the load given, by the cords' shares and the places of their servers:
 -- ceil(share × load / scale).
@@ -60,17 +71,15 @@ abbrev pub carried_from : ℕ → List ℕ → List ℕ → List ℕ → List �
 carried_from scale shares servers loads = figures (length shares) (λ c. carried scale (at shares c) (at loads (at servers c)))
 
 -- The rows are those of the room's servers, in table order.
-pub record ServerRows (r : Room) (rows : List (List ℕ)) : Type 0 where
-  pub ranks : column rank_column rows ≡ figures (length r.servers) (λ v. (server_at r v).rank)
-  pub leasts : column least_column rows ≡ figures (length r.servers) (λ v. (server_at r v).least)
-  pub greatests : column greatest_column rows ≡ figures (length r.servers) (λ v. (server_at r v).greatest)
-  pub counts : column cord_count_column rows ≡ figures (length r.servers) (λ v. cord_count (server_at r v))
-  pub widths : (v : ℕ) → v < length rows → length (get_or rows v []) ≡ row_width
+pub record ServerRows (r : Room) (rows : List ServerRow) : Type 0 where
+  pub ranks : ranks_in rows ≡ figures (length r.servers) (λ v. (server_at r v).rank)
+  pub leasts : leasts_in rows ≡ figures (length r.servers) (λ v. (server_at r v).least)
+  pub greatests : greatests_in rows ≡ figures (length r.servers) (λ v. (server_at r v).greatest)
+  pub counts : counts_in rows ≡ figures (length r.servers) (λ v. cord_count (server_at r v))
 
 -- The rows are those of the room's cords, in table order.
-pub record CordRows (r : Room) (rows : List (List ℕ)) : Type 0 where
-  pub nodes : column node_column rows ≡ nodes_of r
-  pub servers : column server_column rows ≡ servers_of r
-  pub levels : column level_column rows ≡ levels_of r
-  pub shares : column share_column rows ≡ shares_of r
-  pub widths : (c : ℕ) → c < length rows → length (get_or rows c []) ≡ row_width
+pub record CordRows (r : Room) (rows : List CordRow) : Type 0 where
+  pub nodes : nodes_in rows ≡ nodes_of r
+  pub servers : servers_in rows ≡ servers_of r
+  pub levels : levels_in rows ≡ levels_of r
+  pub shares : shares_in rows ≡ shares_of r

@@ -1,6 +1,6 @@
 // What a good table holds, for the crates above `rooms`: its counts, its nodes as lists, and a row a server and a row a cord. None of
 // these is an operation: what they claim, they claim of a table that passes the check.
-ghost use Rattle.std.specs.Prelude.{◌≡◌, [], ◌∷◌, ◌+◌, ◌-◌, ◌^◌, ◌≤◌, ◌<◌, length};
+ghost use Rattle.std.specs.Prelude.{◌≡◌, ◌+◌, ◌-◌, ◌^◌, ◌≤◌, ◌<◌, length};
 ghost use Rattle.figures.specs.Figures.{at};
 ghost use Rattle.rooms.specs.Part.{Good};
 ghost use Rattle.rooms.specs.Table.{highest_rank};
@@ -11,21 +11,40 @@ ghost use Rattle.rooms.specs.Walk.{servers_index};
 
 use crate::form::{has_percents, limit_at, node_index, scale_of};
 
-// The columns of a cord's row. Its level is its rank, counted from 0 as places are.
-pub const NODE: usize = 0;
+// A cord of a room: the number of its node, the place of its server, its level and its share. Its level is its rank, counted from 0 as
+// places are.
+#[derive(Clone, Copy, PartialEq, Eq)]
+pub struct CordRow {
+    pub node: u16,
+    pub server: u16,
+    pub level: u16,
+    pub share: u16,
+}
 
-pub const SERVER: usize = 1;
+// A row that no cord has filled yet.
+pub const NO_CORD: CordRow = CordRow {
+    node: 0,
+    server: 0,
+    level: 0,
+    share: 0,
+};
 
-pub const LEVEL: usize = 2;
+// A server of a room: its rank, the least and the greatest watts that it needs, and how many cords it has.
+#[derive(Clone, Copy, PartialEq, Eq)]
+pub struct ServerRow {
+    pub rank: u32,
+    pub least: u32,
+    pub greatest: u32,
+    pub cords: u32,
+}
 
-pub const SHARE: usize = 3;
-
-// The columns of a server's row, behind that of its rank.
-pub const LEAST: usize = 1;
-
-pub const GREATEST: usize = 2;
-
-pub const CORD_COUNT: usize = 3;
+// A row that no server has filled yet.
+pub const NO_SERVER: ServerRow = ServerRow {
+    rank: 0,
+    least: 0,
+    greatest: 0,
+    cords: 0,
+};
 
 // The word at an index; 0 past the table's end.
 // By hand: the chips' build takes no `get`, whose pointer stands in a pair (chips/portable.awk).
@@ -95,16 +114,21 @@ pub fn lay_out_nodes(table: &[u32], parents: &mut [u16], limits: &mut [u32])
     }
 }
 
-// A cord's row, by its columns.
-fn cord_row(node: u32, server: usize, rank: u32, share: u32) -> [u16; 4]
+// A cord's row.
+fn cord_row(node: u32, server: usize, rank: u32, share: u32) -> CordRow
     requires in_range { (node < 2 ^ 16) × (server < 2 ^ 16) × (1 ≤ rank) × (rank ≤ highest_rank) × (share < 2 ^ 16) }
-    ensures result { result ≡ node ∷ server ∷ (rank - 1) ∷ share ∷ [] }
+    ensures result { result ≡ record { node = node; server = server; level = rank - 1; share = share } }
 {
-    [node as u16, server as u16, (rank - 1) as u16, share as u16]
+    CordRow {
+        node: node as u16,
+        server: server as u16,
+        level: (rank - 1) as u16,
+        share: share as u16,
+    }
 }
 
 // A row for each server and each cord of a good table.
-pub fn lay_out_servers(table: &[u32], servers: &mut [[u32; 4]], cords: &mut [[u16; 4]])
+pub fn lay_out_servers(table: &[u32], servers: &mut [ServerRow], cords: &mut [CordRow])
     requires good { Good (checked table.now 0) }
     requires sizes { ServersFit table.now (length servers.old) × CordsFit table.now (length cords.old) }
     ensures laid_out { OfRoom table.now (λ r. ServerRows r servers.new × CordRows r cords.new) }
@@ -122,7 +146,12 @@ pub fn lay_out_servers(table: &[u32], servers: &mut [[u32; 4]], cords: &mut [[u1
             cords[c] = cord_row(node, v, rank, share);
             word += 2;
         }
-        servers[v] = [rank, table[start + 1], table[start + 2], table[start + 3]];
+        servers[v] = ServerRow {
+            rank,
+            least: table[start + 1],
+            greatest: table[start + 2],
+            cords: table[start + 3],
+        };
         first += count;
         start = word;
     }

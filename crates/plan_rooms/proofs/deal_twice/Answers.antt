@@ -4,12 +4,13 @@ use mathlib.Core.List.{List}
 use Prim.Native.Nat.{ℕ, ◌+◌, ◌≤◌, ◌<◌}
 use native.Mathlib.Omega.{arith}
 use lib.ListN.{length, take, replicate}
-use Rattle.figures.specs.Figures.{at, column}
+use Rattle.figures.specs.Figures.{at}
 use Rattle.figures.proofs.Stores.{sets_all}
 use Rattle.rooms.specs.Table.{Room, most_nodes, most_cords, most_servers, highest_rank}
 use Rattle.rooms.proofs.Accepted.{Accepted, accepted}
 use Rattle.rooms.specs.Lists.{limits_of, levels_of}
-use Rattle.rooms.specs.Rows.{node_column, level_column, server_column, share_column}
+use Rattle.rooms.specs.Rows.{nodes_in, servers_in, levels_in, shares_in}
+use Rattle.rooms.specs.declared.lists.CordRow.{CordRow}
 use Rattle.deals.specs.SecondDeal.{first_grants, first_used, second_deal, second_wants}
 use Rattle.deals.specs.SecondDeal as second
 use Rattle.deals.specs.Levels.{LevelLists, no_cords}
@@ -23,7 +24,7 @@ use Rattle.plan_rooms.proofs.deal_twice.Goals as goal
 use Rattle.plan_rooms.proofs.deal_twice.Goals.{After-reclaim-freed}
 
 -- The room of the lists, and how many nodes, cords and servers it has.
-module _ {parents spare : List ℕ} {cords : List (List ℕ)} {nodes lows wants needed : List ℕ} {scale : ℕ} (some : SomeRoom parents spare cords nodes lows wants needed scale) where
+module _ {parents spare : List ℕ} {cords : List CordRow} {nodes lows wants needed : List ℕ} {scale : ℕ} (some : SomeRoom parents spare cords nodes lows wants needed scale) where
   room_ok : Accepted some.room
   room_ok = accepted some.table some.room some.end some.is
 
@@ -97,7 +98,7 @@ module _ (c : After-reclaim-freed) where
   abbrev order_after : List ℕ
   order_after = rejoined cords_s (replicate most_cords 0) c.list_levels.new.order
 
-  listed_at : LevelLists c.args.parents.now (column node_column c.args.cords.now) (column level_column c.args.cords.now) c.list_levels.new.levels (take cords_s order_after) c.list_levels.new.actives
+  listed_at : LevelLists c.args.parents.now (nodes_in c.args.cords.now) (levels_in c.args.cords.now) c.list_levels.new.levels (take cords_s order_after) c.list_levels.new.actives
   listed_at = rw (lent_again order_lent) c.list_levels.ensures.listed
 
   first_lent : (r : Room) → Accepted r → (demands : List ℕ) → RoomOf r demands → DealGiven c.args.parents.now c.list_levels.new.levels (take cords_s order_after) c.list_levels.new.actives c.args.nodes.now c.args.lows.now c.args.wants.now (take nodes_s first_left_after) (limits_of r) (levels_of r) c.args.lows.now
@@ -109,10 +110,10 @@ module _ (c : After-reclaim-freed) where
   abbrev usable_after : List ℕ
   usable_after = rejoined servers_s needs-after c.usable_of.new.usable
 
-  usable_is : take servers_s usable_after ≡ usable_from c.args.scale (column share_column c.args.cords.now) (column server_column c.args.cords.now) c.args.caps.now c.deal.new.grants
+  usable_is : take servers_s usable_after ≡ usable_from c.args.scale (shares_in c.args.cords.now) (servers_in c.args.cords.now) c.args.caps.now c.deal.new.grants
   usable_is = lent_again usable-lent
       ∙ c.usable_of.ensures.usable
-      ∙ ap (λ (needed : List ℕ). usable_from c.args.scale (column share_column c.args.cords.now) (column server_column c.args.cords.now) needed c.deal.new.grants) needs_are
+      ∙ ap (λ (needed : List ℕ). usable_from c.args.scale (shares_in c.args.cords.now) (servers_in c.args.cords.now) needed c.deal.new.grants) needs_are
 
   abbrev starts_after : List ℕ
   starts_after = rejoined cords_s (replicate most_cords 0) c.reclaim-freed.new.starts
@@ -195,7 +196,7 @@ deal-requires c =
     let first_left_after : List ℕ = rejoined nodes_s (replicate most_nodes 0) c.copy.new.to in
     let first_left_is : take nodes_s first_left_after ≡ c.args.left.now = lent_again first_left_lent ∙ c.copy.ensures.copied ∙ sets_all _ _ (zeros-front most_nodes _ nodes_few ∙ sym c.requires.room.lists.lists.spare_size) in
     let order_after : List ℕ = rejoined cords_s (replicate most_cords 0) c.list_levels.new.order in
-    let listed_at : LevelLists c.args.parents.now (column node_column c.args.cords.now) (column level_column c.args.cords.now) c.list_levels.new.levels (take cords_s order_after) c.list_levels.new.actives = rw (lent_again order_lent) c.list_levels.ensures.listed in
+    let listed_at : LevelLists c.args.parents.now (nodes_in c.args.cords.now) (levels_in c.args.cords.now) c.list_levels.new.levels (take cords_s order_after) c.list_levels.new.actives = rw (lent_again order_lent) c.list_levels.ensures.listed in
     let first_lent : (r : Room) → Accepted r → (demands : List ℕ) → RoomOf r demands → DealGiven c.args.parents.now c.list_levels.new.levels (take cords_s order_after) c.list_levels.new.actives c.args.nodes.now c.args.lows.now c.args.wants.now (take nodes_s first_left_after) (limits_of r) (levels_of r) c.args.lows.now = λ r ok demands of. first_given ok of listed_at first_left_is in
     record { lists = (record { limits = limits_of c.requires.room.room; levels = levels_of c.requires.room.room; lows = c.args.lows.now; given = first_lent _ room _ c.requires.room.lists }, blank_marks nodes_few refl, c.requires.blank.1) }
 
@@ -249,13 +250,13 @@ reclaim-freed-requires c =
     let first_left_is : take nodes_s first_left_after ≡ c.args.left.now = lent_again first_left_lent ∙ c.copy.ensures.copied ∙ sets_all _ _ (zeros-front most_nodes _ nodes_few ∙ sym c.requires.room.lists.lists.spare_size) in
     let needs_are : take servers_s needs-after ≡ c.args.caps.now = lent_again needs-lent ∙ c.copy-2.ensures.copied ∙ sets_all _ _ (zeros-front most_servers _ servers_few) in
     let order_after : List ℕ = rejoined cords_s (replicate most_cords 0) c.list_levels.new.order in
-    let listed_at : LevelLists c.args.parents.now (column node_column c.args.cords.now) (column level_column c.args.cords.now) c.list_levels.new.levels (take cords_s order_after) c.list_levels.new.actives = rw (lent_again order_lent) c.list_levels.ensures.listed in
+    let listed_at : LevelLists c.args.parents.now (nodes_in c.args.cords.now) (levels_in c.args.cords.now) c.list_levels.new.levels (take cords_s order_after) c.list_levels.new.actives = rw (lent_again order_lent) c.list_levels.ensures.listed in
     let first_lent : (r : Room) → Accepted r → (demands : List ℕ) → RoomOf r demands → DealGiven c.args.parents.now c.list_levels.new.levels (take cords_s order_after) c.list_levels.new.actives c.args.nodes.now c.args.lows.now c.args.wants.now (take nodes_s first_left_after) (limits_of r) (levels_of r) c.args.lows.now = λ r ok demands of. first_given ok of listed_at first_left_is in
     let first-grants : (r : Room) → Accepted r → (demands : List ℕ) → RoomOf r demands → c.deal.new.grants ≡ first_grants r demands = λ r ok demands of. first_made ok of (c.deal.ensures.dealt (limits_of r) (levels_of r) c.args.lows.now (first_lent _ ok _ of)) in
     let usable_after : List ℕ = rejoined servers_s needs-after c.usable_of.new.usable in
-    let usable_is : take servers_s usable_after ≡ usable_from c.args.scale (column share_column c.args.cords.now) (column server_column c.args.cords.now) c.args.caps.now c.deal.new.grants = lent_again usable-lent
+    let usable_is : take servers_s usable_after ≡ usable_from c.args.scale (shares_in c.args.cords.now) (servers_in c.args.cords.now) c.args.caps.now c.deal.new.grants = lent_again usable-lent
     ∙ c.usable_of.ensures.usable
-    ∙ ap (λ (needed : List ℕ). usable_from c.args.scale (column share_column c.args.cords.now) (column server_column c.args.cords.now) needed c.deal.new.grants) needs_are in
+    ∙ ap (λ (needed : List ℕ). usable_from c.args.scale (shares_in c.args.cords.now) (servers_in c.args.cords.now) needed c.deal.new.grants) needs_are in
     record { lists = (reclaim_asks room c.requires.room.lists (first-grants _ room _ c.requires.room.lists) usable_is grants_size, zeros-front most_cords _ cords_few ∙ sym (cord-count room c.requires.room.lists), wants_count room c.requires.room.lists ∙ sym (cord-count room c.requires.room.lists)) }
 
 pub slice_bounds-used-end-2 : goal.slice_bounds-used-end-2

@@ -9,10 +9,9 @@ use mathlib.Core.List.{List}
 use Prim.Native.Nat.{ℕ, ◌≤◌}
 use native.Mathlib.Omega.{arith}
 use lib.ListN.{length, take, replicate}
-use Rattle.figures.specs.Figures.{column}
 use Rattle.rooms.specs.Table.{Room, most_nodes, most_cords}
 use Rattle.rooms.specs.Lists.{limits_of, levels_of, lows_of}
-use Rattle.rooms.specs.Rows.{node_column}
+use Rattle.rooms.specs.Rows.{nodes_in}
 use Rattle.deals.specs.SecondDeal.{first_used}
 use Rattle.figures.proofs.Cells.{zeros-front}
 use Rattle.figures.proofs.Fronts.{equal_length, front_length, Lent, lent, lent-zeros, rejoined, lent_again, lent_few, lent-front}
@@ -94,7 +93,7 @@ pub deal_twice-freed-requires : goal.deal_twice-freed-requires
 deal_twice-freed-requires c =
     let nodes-after : List ℕ = rejoined c.args.counts.cords (replicate most_cords 0) c.list_nodes.new.nodes in
     let nodes-lent : Lent c.args.counts.cords (replicate most_cords 0) c.list_nodes.new.nodes = lent-zeros most_cords (cords_few c.requires.room.given) c.list_nodes.auto.nodes in
-    let nodes_listed : take c.args.counts.cords nodes-after ≡ column node_column (take c.args.counts.cords c.args.cords.now) = lent_again nodes-lent ∙ c.list_nodes.ensures.listed in
+    let nodes_listed : take c.args.counts.cords nodes-after ≡ nodes_in (take c.args.counts.cords c.args.cords.now) = lent_again nodes-lent ∙ c.list_nodes.ensures.listed in
     record {
       room = record { table = c.requires.room.table; demands = c.requires.room.demands; room = c.requires.room.room; end = c.requires.room.given.end; is = c.requires.room.given.is; lists = to_deal c.requires.room.given nodes_listed };
       blank = (
@@ -139,7 +138,7 @@ name_holders-requires c =
     c.args.headroom.now c.args.caps.now in
     let nodes-after : List ℕ = rejoined c.args.counts.cords (replicate most_cords 0) c.list_nodes.new.nodes in
     let nodes-lent : Lent c.args.counts.cords (replicate most_cords 0) c.list_nodes.new.nodes = lent-zeros most_cords (cords_few c.requires.room.given) c.list_nodes.auto.nodes in
-    let nodes_listed : take c.args.counts.cords nodes-after ≡ column node_column (take c.args.counts.cords c.args.cords.now) = lent_again nodes-lent ∙ c.list_nodes.ensures.listed in
+    let nodes_listed : take c.args.counts.cords nodes-after ≡ nodes_in (take c.args.counts.cords c.args.cords.now) = lent_again nodes-lent ∙ c.list_nodes.ensures.listed in
     let wants-after : List ℕ = rejoined c.args.counts.cords c.args.wants.now c.deal_twice-freed.new.wants in
     let wants_lent : Lent c.args.counts.cords c.args.wants.now c.deal_twice-freed.new.wants = lent (wants_long c.requires.room.given) c.deal_twice-freed.auto.wants in
     let left_after : List ℕ = rejoined c.args.counts.nodes c.args.left.now c.deal_twice-freed.new.left in
@@ -213,7 +212,7 @@ lend-requires c =
     c.args.headroom.now c.args.caps.now in
     let nodes-after : List ℕ = rejoined c.args.counts.cords (replicate most_cords 0) c.list_nodes.new.nodes in
     let nodes-lent : Lent c.args.counts.cords (replicate most_cords 0) c.list_nodes.new.nodes = lent-zeros most_cords (cords_few c.requires.room.given) c.list_nodes.auto.nodes in
-    let nodes_listed : take c.args.counts.cords nodes-after ≡ column node_column (take c.args.counts.cords c.args.cords.now) = lent_again nodes-lent ∙ c.list_nodes.ensures.listed in
+    let nodes_listed : take c.args.counts.cords nodes-after ≡ nodes_in (take c.args.counts.cords c.args.cords.now) = lent_again nodes-lent ∙ c.list_nodes.ensures.listed in
     let wants-after : List ℕ = rejoined c.args.counts.cords c.args.wants.now c.deal_twice-freed.new.wants in
     let wants_lent : Lent c.args.counts.cords c.args.wants.now c.deal_twice-freed.new.wants = lent (wants_long c.requires.room.given) c.deal_twice-freed.auto.wants in
     let left_after : List ℕ = rejoined c.args.counts.nodes c.args.left.now c.deal_twice-freed.new.left in
@@ -241,7 +240,7 @@ returns c =
     c.args.headroom.now c.args.caps.now in
     let nodes-after : List ℕ = rejoined c.args.counts.cords (replicate most_cords 0) c.list_nodes.new.nodes in
     let nodes-lent : Lent c.args.counts.cords (replicate most_cords 0) c.list_nodes.new.nodes = lent-zeros most_cords (cords_few c.requires.room.given) c.list_nodes.auto.nodes in
-    let nodes_listed : take c.args.counts.cords nodes-after ≡ column node_column (take c.args.counts.cords c.args.cords.now) = lent_again nodes-lent ∙ c.list_nodes.ensures.listed in
+    let nodes_listed : take c.args.counts.cords nodes-after ≡ nodes_in (take c.args.counts.cords c.args.cords.now) = lent_again nodes-lent ∙ c.list_nodes.ensures.listed in
     let wants-after : List ℕ = rejoined c.args.counts.cords c.args.wants.now c.deal_twice-freed.new.wants in
     let wants_lent : Lent c.args.counts.cords c.args.wants.now c.deal_twice-freed.new.wants = lent (wants_long c.requires.room.given) c.deal_twice-freed.auto.wants in
     let left_after : List ℕ = rejoined c.args.counts.nodes c.args.left.now c.deal_twice-freed.new.left in

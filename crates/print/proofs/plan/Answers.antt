@@ -1,5 +1,4 @@
 -- `plan` meets its contract: it lends as many rows as the room has servers and cords.
-use lib.ListN.{replicate}
 use Rattle.rooms.proofs.RowsLent.{servers_few, servers-front, servers-lent, cords_few, cords-front, cords-lent}
 use Rattle.print.proofs.plan.Goals as goal
 
@@ -7,17 +6,17 @@ pub slice_bounds-servers-end : goal.slice_bounds-servers-end
 slice_bounds-servers-end c = servers_few _ c.requires.good c.server_count-server_count.ensures.count
 
 pub slice_bounds-plan_by-end : goal.slice_bounds-plan_by-end
-slice_bounds-plan_by-end c = servers-front _ c.requires.good c.server_count-server_count.ensures.count (replicate 4 0)
+slice_bounds-plan_by-end c = servers-front _ c.requires.good c.server_count-server_count.ensures.count
 
 pub slice_bounds-cords-end : goal.slice_bounds-cords-end
 slice_bounds-cords-end c = cords_few _ c.requires.good c.cord_count-cord_count.ensures.count
 
 pub slice_bounds-plan_by-end-2 : goal.slice_bounds-plan_by-end-2
-slice_bounds-plan_by-end-2 c = cords-front _ c.requires.good c.cord_count-cord_count.ensures.count (replicate 4 0)
+slice_bounds-plan_by-end-2 c = cords-front _ c.requires.good c.cord_count-cord_count.ensures.count
 
 pub plan_by-requires : goal.plan_by-requires
 plan_by-requires c =
     record {
       good = c.requires.good;
-      sizes = (servers-lent _ c.requires.good c.server_count-server_count.ensures.count (replicate 4 0), cords-lent _ c.requires.good c.cord_count-cord_count.ensures.count (replicate 4 0));
+      sizes = (servers-lent _ c.requires.good c.server_count-server_count.ensures.count, cords-lent _ c.requires.good c.cord_count-cord_count.ensures.count);
     }

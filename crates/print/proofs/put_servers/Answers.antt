@@ -2,11 +2,9 @@
 use borrow.Author.Rules.{rules}
 use native.Mathlib.Omega.{arith}
 use mathlib.Core.Path.{ap, ◌∙◌}
-use mathlib.Core.List.{List, []}
-use Prim.Native.Nat.{ℕ, min}
+use Prim.Native.Nat.{min}
 use lib.Seq.{length-take-le, get_or-take}
-use Rattle.figures.specs.Figures.{at}
-use Rattle.rooms.specs.Rows.{cord_count_column}
+use Rattle.rooms.specs.declared.lists.ServerRow.{ServerRow}
 use Rattle.print.proofs.Turns.{walking_first, walking_next, walked}
 use Rattle.print.proofs.put_servers.Goals as goal
 
@@ -16,9 +14,9 @@ loop-v-init c = walking_first _ _ _ _ _ _ _ (search rules) (omega arith)
 pub loop-v-preserved : goal.loop-v-preserved
 loop-v-preserved c =
     let few = length-take-le c.min-count.result c.args.servers.now (omega (arith, c.min-count.ensures)) in
-    let row = get_or-take c.min-count.result c.args.servers.now c.loop-v.v [] (omega (arith, c.loop-v-test.true)) in
+    let row = get_or-take c.min-count.result c.args.servers.now c.loop-v.v _ (omega (arith, c.loop-v-test.true)) in
     walking_next _ _ _ _ _ _ _ _ _ _ _ c.loop-v.invariant (omega (arith, c.loop-v-test.true)) c.figure.ensures.result
-    (c.min-few.ensures ∙ ap (λ (r : List ℕ). min (at r cord_count_column) 4) row) c.put_server-next.ensures.put c.put_cords-next.ensures.put
+    (c.min-few.ensures ∙ ap (λ (r : ServerRow). min r.cords 4) row) c.put_server-next.ensures.put c.put_cords-next.ensures.put
 
 pub returns : goal.returns
 returns c =

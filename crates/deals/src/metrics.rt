@@ -93,6 +93,7 @@ pub fn weigh(
     ensures weighed { Weighed parents.now active.now (length active.now) left.old wholes.old left.new
         wholes.new weights.new }
 {
+    // By hand: the chips' build takes no `iter().rev()`, whose pointers stand in pairs (chips/portable.awk).
     for i in (0..active.len()).rev() {
         let n = usize::from(active[i]);
         let weight = take(left, n, wholes[n]);
@@ -131,6 +132,7 @@ pub fn request(
     ensures requested { Requested parents.now level left.old wholes.new cuts.old
         bases.old requests.old cuts.new bases.new requests.new }
 {
+    // By hand: the chips' build takes no `iter().rev()`, whose pointers stand in pairs (chips/portable.awk).
     for i in (0..active.len()).rev() {
         let n = usize::from(active[i]);
         let parent = usize::from(parents[n]);

@@ -113,6 +113,7 @@ fn put(value: u32, sheet: &mut [u8], at: usize) -> usize
 {
     let mut rest = value;
     let mut next = at;
+    // By hand: what ends the loop is what is left of the value, and no count or list that is known before.
     while 128 <= rest {
         sheet[next] = (128 + rest % 128) as u8;
         rest /= 128;

@@ -13,6 +13,7 @@ pub fn decode_sheet(sheet: &[u8], words: &mut [u32]) -> Result<usize, BadNumber>
 {
     let mut at = 0;
     let mut count = 0;
+    // By hand: how far a turn goes is what the number takes, which the sheet itself says.
     while at < sheet.len() {
         let (value, next) = crate::decode(sheet, at)?;
         if count < words.len() {

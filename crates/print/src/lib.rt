@@ -129,6 +129,7 @@ fn put_cords(
         (plan_line lists.entry.grants.now lists.entry.headroom.now lists.entry.held.now) first)) }
 {
     let mut next = start;
+    // By hand: the figures of a cord stand at its place in lists of other lengths, past whose ends they count as 0.
     for k in 0..count {
         next = put_cord(
             (k + 1) as u64,

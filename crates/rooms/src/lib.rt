@@ -112,7 +112,8 @@ impl From<Unwritten> for SheetRefusal {
     }
 }
 
-// The whole check of a table: the count of its cords and its length, or its refusal. `lows` come as zeros; a good table leaves those beneath each node there, a refused one may leave anything.
+// The whole check of a table: the count of its cords and its length, or its refusal. `lows` come as zeros; a good table leaves those beneath
+// each node there, a refused one may leave anything.
 fn check_summing(table: &[u32], lows: &mut [u64; MOST_NODES]) -> Result<(u32, usize), SheetRefusal>
     requires zeros { lows.old ≡ replicate most_nodes 0 }
     ensures result { result ≡ told room_cords (checked table.now 0) }

@@ -128,6 +128,7 @@ fn cord_row(node: u32, server: usize, rank: u32, share: u32) -> CordRow
 }
 
 // A row for each server and each cord of a good table.
+// By hand: `load_cords` and `note_cords` walk so too; of a closure that stores what it is given at each cord, no proof would know the lists.
 pub fn lay_out_servers(table: &[u32], servers: &mut [ServerRow], cords: &mut [CordRow])
     requires good { Good (checked table.now 0) }
     requires sizes { ServersFit table.now (length servers.old) × CordsFit table.now (length cords.old) }

@@ -47,6 +47,7 @@ pub fn read_lines(text: &[u8], words: &mut [u32]) -> Result<usize, ScheduleRefus
 {
     let mut at = 0;
     let mut count = 0;
+    // By hand: how far a turn goes is what the line takes, which the text itself says.
     while at < text.len() {
         let (entry, next) = judge_line(text, at, count)?;
         let index = 2 + 2 * count;

@@ -20,6 +20,7 @@ fn short_quotient(amount: u32, upto: u32, whole: u32) -> u32
 }
 
 // The long way: the same wherever the product fits in 64 bits.
+// By hand: as one generic function with the short way it would not say of either how wide its numbers are, which is what tells them apart.
 fn long_quotient(amount: u32, upto: u64, whole: u64) -> u32
     requires in_range { (upto ≤ whole) × (amount * whole < 2 ^ 64) }
     ensures result { result ≡ quotient_in 64 amount upto whole }

@@ -108,11 +108,10 @@ pub fn admit(
     })
 }
 
-// By hand: the seven lists are no one struct, since the ceilings and the needs are the C call's own lists (`plan_bytes`): a struct of arrays
-// would have them twice in memory, and a struct of slices is not known to pass the chips' build (chips/portable.awk).
-//
 // Loads a room: its table and its servers' demands are checked, and of a good room the lists are laid out at the fronts of those lent, which
 // take any room's. Refused, it may leave anything in them.
+// By hand: the seven lists are no one struct, since the ceilings and the needs are the C call's own lists (`plan_bytes`): a struct of arrays
+// would have them twice in memory, and a struct of slices is not known to pass the chips' build (chips/portable.awk).
 pub fn load_room(
     table: &[u32],
     demands: &[u32],

@@ -20,6 +20,7 @@ pub const FIGURES: usize = 520;
 // rank, so that the greatest mark stands. The Requests stand in `requests`, a row a node and a column a rank; only those of active nodes
 // are filled. `bases` (the starts beneath) and `wholes` (the children's weights) have a rank's figure of each node; `amounts` (its weight,
 // and then what it has to give), `before` (weights served) and `dealt` that of each active one.
+// By hand: `nodes`, `starts` and `wants` as one struct were tried, and proved: each clause and call got longer, and each loop took it apart.
 pub fn deal(
     parents: &[u16],
     levels: &[Level; 16],

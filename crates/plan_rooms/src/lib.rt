@@ -91,6 +91,7 @@ fn deal_twice(
 // The plan of a room that is loaded, at the fronts of lists with an entry for each cord, and of the caps for each server; gives the freed
 // watts. `caps` come with the servers' needs, and `headroom` with the cords' ceilings. Once both deals are made, the lows are lent to
 // `lend` for figures of its own.
+// By hand: a struct of the lists that are lent would be made here to be taken apart again, since the passes take other parts of them.
 pub fn plan_loaded(
     counts: Counts,
     parents: &[u16],

@@ -178,6 +178,7 @@ fn put_server(number: u64, cap: u64, buffer: &mut [u8], start: usize) -> usize
 }
 
 // `cord K node M grant G headroom W held B`.
+// By hand: the figures stand in the order of the line that shows them.
 fn put_cord(
     number: u64,
     node: u64,

@@ -70,6 +70,7 @@ fn all_of(amount: u32, whole: u64) -> u32
 
 // Whether a child is seen to have all the weight. That is looked at where children are mostly alone; elsewhere the processor
 // would predict it badly, and a division costs less.
+// By hand: `alone` says which of the children's loops asks; a closure in its place would be one that tests and one that does not.
 fn has_all(alone: bool, weight: u64, whole: u64) -> bool
     ensures result { result ≡ alone && eqb weight whole }
 {
@@ -77,6 +78,7 @@ fn has_all(alone: bool, weight: u64, whole: u64) -> bool
 }
 
 // The same part. Where children are mostly alone, one with all the weight takes all without a division.
+// By hand: a struct of the node's two lists would be made anew for each child.
 pub fn serve(
     alone: bool,
     amount: u32,

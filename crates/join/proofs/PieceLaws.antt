@@ -20,9 +20,6 @@ pub record Turning (change : List ℕ → List ℕ) (wanted list now : List ℕ)
   pub ahead : drop i now ≡ drop i list
   pub same : take i now ++ change (drop i now) ≡ wanted
 
-pub turning_begin : (change : List ℕ → List ℕ) (list : List ℕ) → Turning change (change list) list list 0
-turning_begin change list = record { size = refl; ahead = refl; same = refl }
-
 -- Where nothing is left, all is done.
 pub turning_end : {change : List ℕ → List ℕ} {wanted list now : List ℕ} {i : ℕ} → change [] ≡ [] → length now ≤ i → Turning change wanted list now i → now ≡ wanted
 turning_end {change} {wanted} {list} {now} {i} none h t =

@@ -6,7 +6,7 @@ use Prim.Native.Nat.{ℕ, suc, ◌+◌, ◌-◌, ◌*◌, ◌/◌, ◌≤◌, �
 use Rattle.std.proofs.Common.{Result, Ok, Err}
 use Rattle.std.specs.Result.{result_unwrap_or}
 use native.Mathlib.Omega.{arith}
-use lib.ListN.{length, take, set, length-take, length-set}
+use lib.ListN.{length, take, set, length-set}
 use lib.Seq.{sets, take_all}
 use borrow.Author.Tests.{ltb-false}
 use Rattle.outcomes.specs.Outcome.{accepted, refused, unless, after}
@@ -129,9 +129,6 @@ module _ (outcome : JoinOutcome) {told : Result ℕ JoinRefusal} {count : ℕ} (
       go (refused q) = refl
 
   module _ {words : List ℕ} (front : InFront outcome words) where
-    pub count_fits : count ≤ length words
-    count_fits = omega (arith, count_is, ap length front.is, length-take (length (written outcome)) words)
-
     taken : take count words ≡ written outcome
     taken = ap (λ (k : ℕ). take k words) count_is ∙ front.is
 

@@ -1,13 +1,13 @@
 -- The first word across a cut, searched in the words of a table: the laws of the loops.
 use mathlib.Core.Path.{◌≡◌, refl, sym, ap, ap₂, ◌∙◌}
-use mathlib.Core.Bool.{Bool, true, false, cond, ◌&&◌}
+use mathlib.Core.Bool.{Bool, true, false, cond}
 use mathlib.Core.List.{List, [], ◌∷◌}
-use Prim.Native.Nat.{ℕ, zero, suc, ◌+◌, ◌-◌, ◌*◌, ◌≤◌, ◌<◌}
+use Prim.Native.Nat.{ℕ, zero, suc, ◌+◌, ◌-◌, ◌≤◌, ◌<◌}
 use native.Mathlib.Omega.{arith}
-use lib.ListN.{length, get_or, take, drop, drop_of_length-le}
+use lib.ListN.{length, get_or, take, drop}
 use lib.Seq.{drop-cons, drop-drop, get_or-take, get_or-drop}
-use lib.Dec.{leb, ltb}
-use borrow.Author.Tests.{ltb-true, ltb-false, lt-leb, le-leb}
+use lib.Dec.{ltb}
+use borrow.Author.Tests.{ltb-true, ltb-false}
 use Rattle.join.specs.Pieces.{piece}
 use Rattle.join.proofs.PieceLaws.{drop-take}
 use Rattle.part.specs.Crossing.{across}
@@ -149,14 +149,6 @@ span_near size most i more none small near = go (ltb i size) refl
     go false e = omega (arith, none (ltb-false i size e))
 
 module _ (w : List ℕ) (i : ℕ) where
-  pub span_past : length w ≤ i → 0 ≡ server_span (drop i w)
-  span_past h = sym (ap server_span (drop_of_length-le w h))
-
-  pub span-here : {count : ℕ} → i < length w → count ≡ get_or w (i + 3) 0 → 4 + 2 * count ≡ server_span (drop i w)
-  span-here {count} h c =
-      ap (λ (k : ℕ). 4 + 2 * k) (c ∙ ap (λ (k : ℕ). get_or w k 0) (let q : i + 3 ≡ suc i + 2 = omega arith in q) ∙ sym (get_or-drop (suc i) w 2 0))
-      ∙ sym (ap server_span (drop-cons w i 0 h))
-
   -- One server more.
   pub span_more : {k left more all : ℕ} → more ≡ server_span (drop i w) → k ≡ suc left → i + span k (drop i w) ≡ all → i + more + span left (drop (i + more) w) ≡ all
   unfolding span
@@ -169,19 +161,3 @@ module _ (w : List ℕ) (i : ℕ) where
   pub span_done : {k all : ℕ} → k ≡ 0 → i + span k (drop i w) ≡ all → i ≡ all
   unfolding span
   span_done {k} {all} n e = let none : span k (drop i w) ≡ 0 = ap (λ (m : ℕ). span m (drop i w)) n in omega arith
-
--- ---- One number
-
-module _ (nodes number : ℕ) {before : Bool} where
-  pub across-before : before ≡ true → ltb nodes number ≡ across nodes before number
-  across-before e = sym (ap (λ (t : Bool). across nodes t number) e)
-
-  module _ (behind : before ≡ false) where
-    side_is : across nodes before number ≡ leb 1 number && leb number nodes
-    side_is = ap (λ (t : Bool). across nodes t number) behind
-
-    pub across_some : 1 ≤ number → leb number nodes ≡ across nodes before number
-    across_some h = sym (side_is ∙ ap (λ (t : Bool). t && leb number nodes) (le-leb 1 number h))
-
-    pub across_none : number < 1 → leb 1 number ≡ across nodes before number
-    across_none h = lt-leb 1 number h ∙ sym (side_is ∙ ap (λ (t : Bool). t && leb number nodes) (lt-leb 1 number h))

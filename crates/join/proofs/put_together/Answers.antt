@@ -1,9 +1,9 @@
 -- `put_together` meets its contract: piece by piece behind the others.
 use mathlib.Core.Path.{◌≡◌, refl, ◌∙◌}
-use Prim.Native.Nat.{◌+◌, ◌-◌, ◌<◌, ◌^◌}
+use Prim.Native.Nat.{◌+◌, ◌-◌, ◌<◌}
 use native.Mathlib.Omega.{arith}
 use lib.ListN.{length, length-set}
-use Rattle.join.proofs.HutLaws.{hut_small, hut_below}
+use Rattle.join.proofs.HutLaws.{hut_below}
 use Rattle.join.proofs.Together.{head_length, fits_one, fits_two, has_space, may_nodes_one, may_nodes_two, may_servers_one, may_servers_two, behind_is, between_is, next_is, together}
 use borrow.Author.Rules.{rules}
 use Rattle.join.proofs.put_together.Goals as goal
@@ -27,18 +27,6 @@ room_left : (c : After-put_nodes-middle) → c.put_nodes-middle.result < length 
 room_left c =
     let middle = middle_at c in
     omega (arith, middle.0, middle.1, (fits_one _ _ c.requires.may_put).inner, (fits_two _ _ c.requires.may_put).two, (fits_two _ _ c.requires.may_put).inner, c.requires.may_put.space)
-
--- The index is far below what fits.
-middle_small : (c : After-put_nodes-middle) → c.put_nodes-middle.result < 2 ^ 33
-middle_small c =
-    omega (
-      arith,
-      (middle_at c).0,
-      (fits_one _ _ c.requires.may_put).inner,
-      (fits_two _ _ c.requires.may_put).inner,
-      (hut_small c.requires.may_put.first).words.1,
-      (hut_small c.requires.may_put.second).words.1,
-    )
 
 next_size : (c : After-put_words-next) → length c.put_nodes-middle.new.words ≡ length c.args.words.now → length c.put_words-next.new.words ≡ length c.args.words.now
 next_size c size = c.put_words-next.ensures.put.size ∙ length-set c.put_nodes-middle.new.words c.put_nodes-middle.result (c.args.one.servers + c.args.two.servers) ∙ size

@@ -14,9 +14,6 @@ cut c = record {
   two_is = c.side_behind-two.ensures.is;
 }
 
-pub side_before-one-requires : goal.side_before-one-requires
-side_before-one-requires c = record { hut = c.requires.hut; nodes = omega (arith, c.requires.nodes.1) }
-
 pub side_behind-two-requires : goal.side_behind-two-requires
 side_behind-two-requires c = record { within = one_within c.requires.hut c.requires.nodes.1 c.requires.servers c.side_before-one.ensures.is }
 

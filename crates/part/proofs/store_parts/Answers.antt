@@ -1,13 +1,9 @@
 -- `store_parts` meets its contract: what is admitted is stored, side by side.
-use mathlib.Core.Path.{◌≡◌, ap, ◌∙◌}
 use Prim.Native.Nat.{◌/◌}
-use native.Mathlib.Omega.{arith}
 use lib.ListN.{length}
-use lib.Seq.{length-sets}
 use Rattle.std.proofs.Common.{Ok, Err}
 use Rattle.std.proofs.lemmas.Result.{err_from_is_err_and}
 use Rattle.words.specs.Bytes.{words_of}
-use Rattle.calls.proofs.Fronts.{loaded-length}
 use Rattle.part.specs.Outcome.{parting}
 use Rattle.part.specs.Sides.{Halved}
 use Rattle.part.proofs.SidesMade.{decided, parts_stored, refused_stored}
@@ -21,12 +17,6 @@ sides c =
     decided c.args.table.now c.args.words.now c.args.nodes c.args.servers _ _ c.load-count.ensures.count c.load-count.ensures.loaded c.requires.deciding
     (Ok (c.in_ok-one.one, c.in_ok-one.two)) c.in_ok-one.ensures.admits
 
-size : (c : In_ok-one) → length c.load-count.new.list ≡ length c.args.words.now
-size c = ap length c.load-count.ensures.loaded ∙ length-sets c.args.words.now 0 (words_of c.args.table.now)
-
-pub slice_bounds-admit-end-2 : goal.slice_bounds-admit-end-2
-slice_bounds-admit-end-2 c = loaded-length _ _ c.load-count.ensures.count c.load-count.ensures.loaded
-
 pub returns-in_err-one : goal.returns-in_err-one
 returns-in_err-one c =
     let p = err_from_is_err_and c.from_residual.result c.from_residual.ensures.1 in
@@ -38,17 +28,11 @@ returns-in_err-one c =
           (Err c.in_err-one.field-0.0) c.in_err-one.ensures.admits));
     }
 
-pub store_side-requires : goal.store_side-requires
-store_side-requires c =
-    let at = (goal.at.store_side-requires c).In_ok-one in
-    let sides = sides at in
-    record { fits = sides.first_fits; space = (omega (arith, sides.first_space.0, size at, c.requires.deciding), sides.first_space.1) }
+pub store_side-requires-clause-fits : goal.store_side-requires-clause-fits
+store_side-requires-clause-fits c = (sides (goal.at.store_side-requires-clause-fits c).In_ok-one).first_fits
 
-pub store_side-requires-2 : goal.store_side-requires-2
-store_side-requires-2 c =
-    let at = (goal.at.store_side-requires-2 c).In_ok-one in
-    let sides = sides at in
-    record { fits = sides.second_fits; space = (omega (arith, sides.second_space.0, size at, c.store_side.auto, c.requires.deciding), sides.second_space.1) }
+pub store_side-requires-2-clause-fits : goal.store_side-requires-2-clause-fits
+store_side-requires-2-clause-fits c = (sides (goal.at.store_side-requires-2-clause-fits c).In_ok-one).second_fits
 
 pub returns : goal.returns
 returns c =

@@ -1,11 +1,8 @@
 -- `cord_across` meets its contract: no cord before i is across, and what stands behind starts with the cords that are left.
-use mathlib.Core.Path.{refl, ◌∙◌}
+use mathlib.Core.Path.{◌∙◌}
 use native.Mathlib.Omega.{arith}
 use Rattle.part.proofs.AcrossLaws.{cords-end, cord_found, server_again, cord_again}
 use Rattle.part.proofs.sides.cord_across.Goals as goal
-
-pub loop-i-init : goal.loop-i-init
-loop-i-init c = refl
 
 pub loop-i-preserved-then-left-eq0 : goal.loop-i-preserved-then-left-eq0
 loop-i-preserved-then-left-eq0 c = server_again _ _ _ _ _ _ c.if-left-eq0.true c.requires.there c.count_at-left.ensures.is c.loop-i.invariant

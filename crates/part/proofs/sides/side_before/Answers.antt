@@ -4,10 +4,6 @@ use Rattle.join.proofs.HutLaws.{hut_below}
 use Rattle.part.proofs.SidesMade.{starts_within, nodes_small, before_made}
 use Rattle.part.proofs.sides.side_before.Goals as goal
 
-pub overflow_add-start : goal.overflow_add-start
-overflow_add-start c =
-    let within = starts_within c.requires.hut in omega (arith, within.0, within.1)
-
 pub overflow_mul-result : goal.overflow_mul-result
 overflow_mul-result c = omega (arith, nodes_small c.requires.hut c.requires.nodes c.node_width.ensures.is.0)
 

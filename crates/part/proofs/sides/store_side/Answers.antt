@@ -1,12 +1,6 @@
 -- `store_side` meets its contract: the table is put together whole, and stored whole.
-use mathlib.Core.Path.{sym}
-use lib.Seq.{length-take-le}
 use Rattle.part.proofs.SidesMade.{side_stored}
-use borrow.Author.Rules.{rules}
 use Rattle.part.proofs.sides.store_side.Goals as goal
-
-pub slice_bounds-store-end-2 : goal.slice_bounds-store-end-2
-slice_bounds-store-end-2 c = sym (length-take-le _ _ (search rules))
 
 pub returns : goal.returns
 returns c =

@@ -1,5 +1,4 @@
 -- `put_servers` meets its contract: what is put, followed by the servers that are left, is always the whole.
-use borrow.Author.Rules.{rules}
 use native.Mathlib.Omega.{arith}
 use mathlib.Core.Path.{ap, ◌∙◌}
 use mathlib.Core.List.{List, []}
@@ -7,11 +6,8 @@ use Prim.Native.Nat.{ℕ, min}
 use lib.Seq.{length-take-le, get_or-take}
 use Rattle.figures.specs.Figures.{at}
 use Rattle.rooms.specs.Rows.{cord_count_column}
-use Rattle.print.proofs.Turns.{walking_first, walking_next, walked}
+use Rattle.print.proofs.Turns.{walking_next, walked}
 use Rattle.print.proofs.put_servers.Goals as goal
-
-pub loop-v-init : goal.loop-v-init
-loop-v-init c = walking_first _ _ _ _ _ _ _ (search rules) (omega arith)
 
 pub loop-v-preserved : goal.loop-v-preserved
 loop-v-preserved c =

@@ -14,9 +14,8 @@ slice_bounds-cords-end c = cords_few _ c.requires.good c.cord_count-cord_count.e
 pub slice_bounds-plan_by-end-2 : goal.slice_bounds-plan_by-end-2
 slice_bounds-plan_by-end-2 c = cords-front _ c.requires.good c.cord_count-cord_count.ensures.count
 
-pub plan_by-requires : goal.plan_by-requires
-plan_by-requires c =
-    record {
-      good = c.requires.good;
-      sizes = (servers-lent _ c.requires.good c.server_count-server_count.ensures.count, cords-lent _ c.requires.good c.cord_count-cord_count.ensures.count);
-    }
+pub plan_by-requires-clause-sizes : goal.plan_by-requires-clause-sizes
+plan_by-requires-clause-sizes c = (
+  servers-lent _ c.requires.good c.server_count-server_count.ensures.count,
+  cords-lent _ c.requires.good c.cord_count-cord_count.ensures.count,
+)

@@ -3,18 +3,7 @@ use Rattle.print.proofs.Putting.{put_as}
 use Rattle.print.proofs.Promises.{prints_room}
 use Rattle.print.proofs.plan_by.Goals as goal
 
-pub lay_out_servers-requires : goal.lay_out_servers-requires
-lay_out_servers-requires c =
-    record {
-      good = c.requires.good;
-      sizes = c.requires.sizes;
-    }
-
-pub returns : goal.returns
-returns c =
-    record {
-      put = λ room end is.
-          let rows = c.lay_out_servers.ensures.laid_out room end is in
-          put_as (prints_room _ room end _ _ _ _ _ _ _ is rows.0 rows.1) c.put_plan.ensures.put;
-      counts = c.put_plan.ensures.counts;
-    }
+pub returns-clause-put : goal.returns-clause-put
+returns-clause-put c room end is =
+    let rows = c.lay_out_servers.ensures.laid_out room end is in
+    put_as (prints_room _ room end _ _ _ _ _ _ _ is rows.0 rows.1) c.put_plan.ensures.put

@@ -1,15 +1,11 @@
 -- `put_servers` meets its contract: what is put, followed by the servers that are left, is always the whole.
-use borrow.Author.Rules.{rules}
 use native.Mathlib.Omega.{arith}
 use mathlib.Core.Path.{ap, ◌∙◌}
 use Prim.Native.Nat.{min}
 use lib.Seq.{length-take-le, get_or-take}
 use Rattle.rooms.specs.declared.lists.ServerRow.{ServerRow}
-use Rattle.print.proofs.Turns.{walking_first, walking_next, walked}
+use Rattle.print.proofs.Turns.{walking_next, walked}
 use Rattle.print.proofs.put_servers.Goals as goal
-
-pub loop-v-init : goal.loop-v-init
-loop-v-init c = walking_first _ _ _ _ _ _ _ (search rules) (omega arith)
 
 pub loop-v-preserved : goal.loop-v-preserved
 loop-v-preserved c =

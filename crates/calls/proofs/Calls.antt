@@ -68,11 +68,6 @@ pub told_refused : (count : ℕ) (buffer : List ℕ) {one : List ℕ} {number pl
     → one ≡ sets buffer 0 (answer_bytes (k ∷ v ∷ [])) → one ≡ answered count (number ∷ place ∷ []) buffer
 told_refused count buffer {one} {number} {place} h n p a = rw (n, p) at a ∙ sym (answered_long count buffer (number ∷ place ∷ []) h)
 
--- An answer is told by its number and its figure.
-pub answer-told : (answer : List ℕ) {answer' : List ℕ} {number figure k v : ℕ} → k ≡ number → v ≡ figure → answer' ≡ answered 2 (k ∷ v ∷ []) answer
-    → answer' ≡ answered 2 (number ∷ figure ∷ []) answer
-answer-told answer n f a = rw (n, f) at a
-
 -- ---- The call
 
 module _ {count : ℕ} (numbers answer : List ℕ) (Buffers : Bool → Type 0) where

@@ -6,9 +6,6 @@ use mathlib.Core.Bool.{Bool, true, false, cond, ◌&&◌}
 pub and_true : {p q r : Bool} → p ≡ true → r ≡ q → r ≡ p && q
 and_true e f = rw e f
 
-pub false_and : {p : Bool} (q : Bool) → p ≡ false → false ≡ p && q
-false_and q e = rw e
-
 module _ {A : Type 0} where
   -- The branch that a test chooses.
   pub cond_true : {b : Bool} (x y : A) → b ≡ true → x ≡ cond b x y

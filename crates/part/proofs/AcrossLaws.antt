@@ -137,9 +137,6 @@ module _ (w : List ℕ) (nodes : ℕ) (before : Bool) (left i to : ℕ) {all : O
 
 -- ---- Where servers end
 
-pub span_begin : (w : List ℕ) (start k : ℕ) → start + span (k - 0) (drop start w) ≡ start + span k (drop start w)
-span_begin w start k = ap (λ (m : ℕ). start + span m (drop start w)) (let q : k - 0 ≡ k = omega arith in q)
-
 -- A server that starts within a list ends not far behind it, and one that does not has no words.
 pub span_near : (size most i more : ℕ) → (size ≤ i → more ≡ 0) → more < most → i ≤ size + most → i + more ≤ size + most
 span_near size most i more none small near = go (ltb i size) refl

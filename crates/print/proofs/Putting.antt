@@ -113,7 +113,3 @@ putting_next {piece = piece} {rest = rest} g p =
 
 pub putting_last : {a b : List ℕ} {start i : ℕ} {whole : List ℕ} → Putting a start b i [] whole → Put a start b i whole
 putting_last g = rw (sym (append-nil g.so_far) ∙ g.is) at g.put
-
--- The place is never past the buffer's end.
-pub putting_within : {a b : List ℕ} {start i : ℕ} {rest whole : List ℕ} → Putting a start b i rest whole → i ≤ length b
-putting_within g = (counts g.put).0

@@ -50,17 +50,6 @@ pub record Walking (servers : List ServerRow) (cords : List CordRow) (caps : Lis
   pub size : length b ≡ length a
 
 module _ (servers : List ServerRow) (cords : List CordRow) (caps : List ℕ) (line : ℕ → ℕ → ℕ → List ℕ) (a : List ℕ) (start count : ℕ) where
-  pub walking_first : start ≤ length a → count ≤ most_servers → Walking servers cords caps line a start count a 0 start 0
-  walking_first h k =
-      let all : count - 0 ≡ count = omega arith in
-      record {
-        bound = omega arith;
-        most = k;
-        first_bound = omega arith;
-        put = rw all (putting_first a start (servers_at servers cords caps line count 0 0) h);
-        size = refl;
-      }
-
   -- One server more.
   pub walking_next : (b : List ℕ) (first next v : ℕ) {b' b'' : List ℕ} {at-line past cap few : ℕ}
       → Walking servers cords caps line a start count b first next v → v < count

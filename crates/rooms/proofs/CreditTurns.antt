@@ -51,11 +51,6 @@ pub record Crediting {A : Type 0} (part : ℕ → Part A) (next : ℕ → A → 
   pub length_is : length sums ≡ size
   pub sum_is : sum node_count (at sums) + most * left ≤ bound
 
-pub crediting_start : {A : Type 0} {part : ℕ → Part A} {next : ℕ → A → ℕ} (credits : List A → List ℕ → List ℕ) (node_count most : ℕ) {w : List ℕ} {count i : ℕ} (given : ℕ) (sums : List ℕ)
-    → Crediting part next credits node_count most w (credits (row_of (many count part next given w i)) sums) (length sums) (sum node_count (at sums) + most * count) count given i sums
-crediting_start {A} credits node_count most given sums =
-    record { same = λ rest end e. sym (ap (λ (s : Step (List A)). credits (row_of s) sums) e); length_is = refl; sum_is = omega arith }
-
 module _ {A : Type 0} {part : ℕ → Part A} {next : ℕ → A → ℕ} {credits : List A → List ℕ → List ℕ} {node_count most : ℕ} {w : List ℕ} where
   crediting_end : ((l : List ℕ) → credits [] l ≡ l) → (count given₀ i : ℕ) (sums₀ : List ℕ) {size left given j : ℕ} {sums : List ℕ}
       → Crediting part next credits node_count most w (credits (row_of (many count part next given₀ w i)) sums₀) size (sum node_count (at sums₀) + most * count) left given j sums

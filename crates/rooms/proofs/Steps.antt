@@ -141,14 +141,6 @@ pub record Row {A : Type 0} (f : A → ℕ) (part : ℕ → Part A) (next : ℕ 
   pub same : told (plus acc f) (many left part next given w j) ≡ told (total f) (many count part next given₀ w i)
 
 module _ {A : Type 0} (f : A → ℕ) (part : ℕ → Part A) (next : ℕ → A → ℕ) (w : List ℕ) (count given₀ i : ℕ) where
-  pub row_start : Row f part next w count given₀ i 0 count given₀ i
-  unfolding told
-  row_start = record { same = go (many count part next given₀ w i) }
-    where
-      go : (s : Step (List A)) → told (plus 0 f) s ≡ told (total f) s
-      go (good a j) = ap (λ (x : ℕ). Ok (x, j)) (omega arith)
-      go (bad q) = refl
-
   pub row_end : {acc left given j : ℕ} → left ≤ 0 → Row f part next w count given₀ i acc left given j
       → Ok (acc, j) ≡ told (total f) (many count part next given₀ w i)
   unfolding many total told

@@ -83,14 +83,6 @@ pub and_true : (t : Bool) → t && true ≡ t
 and_true true = refl
 and_true false = refl
 
--- A parent is below a node's own number exactly when it is at most the place, one less.
-pub below_own : (parent place : ℕ) → ltb parent (suc place) ≡ leb parent place
-below_own parent place = go (leb parent place) refl
-  where
-    go : (t : Bool) → leb parent place ≡ t → ltb parent (suc place) ≡ t
-    go true e = lt-ltb parent (suc place) (omega (arith, leb-true parent place e))
-    go false e = le-ltb parent (suc place) (omega (arith, leb-false parent place e))
-
 -- Volts and parent of the line at a place are in range, and it is no 513th.
 pub record InRange (place : ℕ) (e : Entry) : Type 0 where
   pub least : least_volts ≤ e.volts

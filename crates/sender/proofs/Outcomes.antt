@@ -36,17 +36,6 @@ module _ (count position : ℕ) where
       go true false c p q r e = absurd (false≢true e)
       go false b c p q r e = absurd (false≢true e)
 
-  -- The code's two tests, of which the second counts only where the first fails.
-  pub position_outside : count ≤ position → leb count position ≡ not (in_range count position)
-  position_outside h = rw (le-leb count position h, le-ltb position count h)
-
-  pub count_outside : position < count → ltb most_servers count ≡ not (in_range count position)
-  count_outside h = go (ltb most_servers count) refl
-    where
-      go : (t : Bool) → ltb most_servers count ≡ t → t ≡ not (in_range count position)
-      go true e = rw (lt-ltb position count h, le-leb 1 count (omega arith), lt-leb count most_servers (ltb-true most_servers count e))
-      go false e = rw (in_range_true (record { below = h; some = omega arith; most = ltb-false most_servers count e }))
-
   pub inside_is : not (in_range count position) ≡ false → InRange count position
   inside_is e = in_range_is (go (in_range count position) e)
     where

@@ -1,5 +1,5 @@
 -- Turns of the loops that put one line, or one server's lines, after another.
-use mathlib.Core.Path.{◌≡◌, refl, ◌∙◌}
+use mathlib.Core.Path.{◌≡◌, ◌∙◌}
 use mathlib.Core.List.{List, [], ◌++◌}
 use Prim.Native.Nat.{ℕ, suc, ◌+◌, ◌-◌, ◌*◌, ◌≤◌, ◌<◌, min}
 use native.Mathlib.Omega.{arith}
@@ -8,7 +8,7 @@ use Rattle.rooms.specs.Table.{most_servers}
 use Rattle.print.specs.Line.{server_line, Put}
 use Rattle.print.specs.Print.{lines_from, at, server_print}
 use Rattle.print.specs.Walk.{cord_line_at, cords_at, servers_at, walk_print}
-use Rattle.print.proofs.Putting.{then, put_size, Putting, putting_first, putting_next, putting_last}
+use Rattle.print.proofs.Putting.{then, put_size, Putting, putting_next, putting_last}
 
 -- ---- lines by place
 
@@ -48,17 +48,6 @@ pub record Walking (servers cords : List (List ℕ)) (caps : List ℕ) (line : �
   pub size : length b ≡ length a
 
 module _ (servers cords : List (List ℕ)) (caps : List ℕ) (line : ℕ → ℕ → ℕ → List ℕ) (a : List ℕ) (start count : ℕ) where
-  pub walking_first : start ≤ length a → count ≤ most_servers → Walking servers cords caps line a start count a 0 start 0
-  walking_first h k =
-      let all : count - 0 ≡ count = omega arith in
-      record {
-        bound = omega arith;
-        most = k;
-        first_bound = omega arith;
-        put = rw all (putting_first a start (servers_at servers cords caps line count 0 0) h);
-        size = refl;
-      }
-
   -- One server more.
   pub walking_next : (b : List ℕ) (first next v : ℕ) {b' b'' : List ℕ} {at-line past cap few : ℕ}
       → Walking servers cords caps line a start count b first next v → v < count

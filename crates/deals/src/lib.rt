@@ -42,6 +42,7 @@ pub enum PlanRefusal {
     ListTooShort(PlanList, usize),
 }
 
+// By hand: the documents number the refusal and not the list, so that a discriminant or a conversion would say what is not so.
 impl PlanList {
     // The number of the refusal where the list is too short.
     pub fn number(self) -> u64
@@ -93,6 +94,7 @@ pub enum Verdict {
     Short(usize, usize),
 }
 
+// By hand: number, cord or node, and rank are three definitions, one for each figure of C's answer, which `judge` tells together.
 impl Verdict {
     // The verdict's number, 0 if the list passes.
     pub fn number(self) -> u64

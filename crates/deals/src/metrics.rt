@@ -14,6 +14,7 @@ use figures::credit;
 
 // The starts (in `bases`) and the weights (in `wholes`) of the listed cords, each summed on its cord's node, of so many nodes. The sums of
 // the starts come as zeros.
+// By hand: `count` beside the lists, which are longer: each pass is lent them whole, as the next one wants them.
 pub fn add_cords(
     count: usize,
     listed: &[u16],

@@ -57,10 +57,6 @@ module _ {a b c : List ℕ} {i j k : ℕ} {s t : List ℕ} where
 pub put_as : {a b : List ℕ} {i n : ℕ} {s t : List ℕ} → s ≡ t → Put a i b n s → Put a i b n t
 put_as e p = rw (← e) p
 
--- No text.
-pub put_none : (a : List ℕ) (i : ℕ) → i ≤ length a → Put a i a i []
-put_none a i h = record { bytes = refl; past = omega arith }
-
 -- What is put can be lent.
 pub counts : {a b : List ℕ} {i n : ℕ} {s : List ℕ} → Put a i b n s → IsPrefixLen n b
 counts {a} {b} {i} {n} {s} p =
@@ -102,9 +98,6 @@ pub record Putting (a : List ℕ) (start : ℕ) (b : List ℕ) (next : ℕ) (res
   pub so_far : List ℕ
   pub put : Put a start b next so_far
   pub is : so_far ++ rest ≡ whole
-
-pub putting_first : (a : List ℕ) (start : ℕ) (whole : List ℕ) → start ≤ length a → Putting a start a start whole whole
-putting_first a start whole h = record { so_far = []; put = put_none a start h; is = refl }
 
 pub putting_next : {a b c : List ℕ} {start i j : ℕ} {piece rest whole : List ℕ}
     → Putting a start b i (piece ++ rest) whole → Put b i c j piece → Putting a start c j rest whole

@@ -1,5 +1,5 @@
 -- Turns of the loops that put one line, or one server's lines, after another.
-use mathlib.Core.Path.{◌≡◌, refl, ◌∙◌}
+use mathlib.Core.Path.{◌≡◌, ◌∙◌}
 use mathlib.Core.List.{List, [], ◌++◌}
 use Prim.Native.Nat.{ℕ, suc, ◌+◌, ◌-◌, ◌*◌, ◌≤◌, ◌<◌, min}
 use native.Mathlib.Omega.{arith}
@@ -10,7 +10,7 @@ use Rattle.rooms.specs.declared.lists.ServerRow.{ServerRow}
 use Rattle.print.specs.Line.{server_line, Put}
 use Rattle.print.specs.Print.{lines_from, at, server_print}
 use Rattle.print.specs.Walk.{cord_line_at, cords_at, servers_at, walk_print}
-use Rattle.print.proofs.Putting.{then, put_size, Putting, putting_first, putting_next, putting_last}
+use Rattle.print.proofs.Putting.{then, put_size, Putting, putting_next, putting_last}
 
 -- ---- lines by place
 
@@ -49,7 +49,11 @@ pub record Walking (servers : List ServerRow) (cords : List CordRow) (caps : Lis
   pub put : Putting a start b next (servers_at servers cords caps line (count - v) v first) (servers_at servers cords caps line count 0 0)
   pub size : length b ≡ length a
 
+<<<<<<< HEAD
 module _ (servers : List ServerRow) (cords : List CordRow) (caps : List ℕ) (line : ℕ → ℕ → ℕ → List ℕ) (a : List ℕ) (start count : ℕ) where
+=======
+module _ (servers cords : List (List ℕ)) (caps : List ℕ) (line : ℕ → ℕ → ℕ → List ℕ) (a : List ℕ) (start count : ℕ) where
+>>>>>>> ac03bcd61000b524dccc4f3aa64c4976b1e8da25
   -- One server more.
   pub walking_next : (b : List ℕ) (first next v : ℕ) {b' b'' : List ℕ} {at-line past cap few : ℕ}
       → Walking servers cords caps line a start count b first next v → v < count

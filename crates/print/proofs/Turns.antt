@@ -49,11 +49,7 @@ pub record Walking (servers : List ServerRow) (cords : List CordRow) (caps : Lis
   pub put : Putting a start b next (servers_at servers cords caps line (count - v) v first) (servers_at servers cords caps line count 0 0)
   pub size : length b ≡ length a
 
-<<<<<<< HEAD
 module _ (servers : List ServerRow) (cords : List CordRow) (caps : List ℕ) (line : ℕ → ℕ → ℕ → List ℕ) (a : List ℕ) (start count : ℕ) where
-=======
-module _ (servers cords : List (List ℕ)) (caps : List ℕ) (line : ℕ → ℕ → ℕ → List ℕ) (a : List ℕ) (start count : ℕ) where
->>>>>>> ac03bcd61000b524dccc4f3aa64c4976b1e8da25
   -- One server more.
   pub walking_next : (b : List ℕ) (first next v : ℕ) {b' b'' : List ℕ} {at-line past cap few : ℕ}
       → Walking servers cords caps line a start count b first next v → v < count

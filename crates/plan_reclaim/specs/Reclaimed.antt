@@ -1,5 +1,5 @@
 -- After a deal: shares, servers and grants by the places of cords, needs and usable watts by those of servers. What the contracts of
--- `reclaim` cite, of the columns of the cords' rows.
+-- `reclaim` cite, of the cords' rows.
 use Rattle.std.specs.Prelude.{◌≡◌, cond, ◌&&◌, List, ℕ, ◌-◌, ◌*◌, ◌/◌, ◌≤◌, ◌<◌, eqb, ltb, length}
 use Rattle.rooms.specs.Table.{IsScale, most_cords, most_watts}
 use Rattle.figures.specs.Figures.{figures, at, sum_of}

@@ -50,16 +50,25 @@ pub fn tell<const N: usize, A: Figures<N>, R: Refusal>(answer: Result<A, R>, buf
     requires figures { 1 ≤ N }
     ensures told { buffer.new ≡ answered (N + 1) (told_numbers A.figures_of R.number_of R.place_of answer) buffer.old }
 {
+    match answer {
+        Ok(result) => tell_figures(result, buffer),
+        Err(refusal) => {
+            if N < buffer.len() / 8 {
+                store(&[refusal.number(), refusal.place()], buffer, 0);
+            }
+        }
+    }
+}
+
+// The answer of a call that is never turned back.
+pub fn tell_figures<const N: usize, A: Figures<N>>(told: A, buffer: &mut [u8])
+    ensures told { buffer.new ≡ answered (N + 1) (0 ∷ A.figures_of told) buffer.old }
+{
     if buffer.len() / 8 <= N {
         return;
     }
-    match answer {
-        Ok(result) => {
-            store(&[0], buffer, 0);
-            store(&result.figures(), buffer, 8);
-        }
-        Err(refusal) => store(&[refusal.number(), refusal.place()], buffer, 0),
-    }
+    store(&[0], buffer, 0);
+    store(&told.figures(), buffer, 8);
 }
 
 // Numbers, one after the other, from a place of a buffer that has space for them.

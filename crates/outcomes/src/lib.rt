@@ -3,8 +3,6 @@
 
 ghost use Rattle.std.specs.Prelude.{◌≡◌, ℕ};
 
-use std::convert::Infallible;
-
 // Why an operation turns its input back: a number of the documents, and a place.
 pub trait Refusal: Copy {
     ghost number_of: { Self → ℕ };
@@ -16,19 +14,4 @@ pub trait Refusal: Copy {
 
     fn place(self) -> u64
         ensures result { result ≡ place_of self };
-}
-
-// What cannot be turned back has no refusal.
-impl Refusal for Infallible {
-    ghost number_of = { λ refusal. 0 };
-
-    ghost place_of = { λ refusal. 0 };
-
-    fn number(self) -> u64 {
-        match self {}
-    }
-
-    fn place(self) -> u64 {
-        match self {}
-    }
 }

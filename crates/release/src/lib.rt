@@ -7,7 +7,6 @@ ghost use Rattle.std.proofs.lemmas.List.Edits.{sets};
 ghost use Rattle.release.specs.Release.{mark, decimal, release_number, ReleaseCall};
 
 use calls::LONG_ANSWER_BYTES;
-use std::convert::Infallible;
 
 const MARK_BYTES: usize = 32;
 
@@ -23,7 +22,7 @@ pub fn release_bytes(answer: &mut [u8]) -> u32
         return 0;
     }
     let number = release_number(answer.len().min(MARK_BYTES));
-    calls::tell::<2, _, Infallible>(Ok([number, NEWEST_VERSION]), answer);
+    calls::tell_figures([number, NEWEST_VERSION], answer);
     1
 }
 

@@ -7,4 +7,4 @@ pub returns-then-answer-lt-LONG_ANSWER_BYTES : goal.returns-then-answer-lt-LONG_
 returns-then-answer-lt-LONG_ANSWER_BYTES c = record { called = call_short _ _ _ (omega arith) tt }
 
 pub returns : goal.returns
-returns c = record { called = call_done _ _ _ (omega arith) tt (rw c.release_number-number.ensures.result at c.tell.ensures.told) }
+returns c = record { called = call_done _ _ _ (omega arith) tt (rw c.release_number-number.ensures.result at c.tell_figures.ensures.told) }

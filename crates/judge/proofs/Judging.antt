@@ -34,8 +34,7 @@ use Rattle.deals.proofs.Bounds.{bounded}
 use Rattle.deals.proofs.Judged.{at_first_none, at_first_some}
 use Rattle.deals.proofs.JudgedTotals.{ltb_both, most_over, most_step, first, first_dealable, short_at_is}
 use Rattle.deals.proofs.JudgedTotals as totals
-use Rattle.judge_totals.specs.declared.Notes.{Notes}
-use Rattle.judge_totals.specs.Totals.{place_of, GrantedCords, over_low, on_node, from_level, over_from, IsMostFrom, less_than, Compared}
+use Rattle.judge_totals.specs.Totals.{Notes, place_of, GrantedCords, over_low, on_node, from_level, over_from, IsMostFrom, less_than, Compared}
 use Rattle.judge.specs.Lists.{CordsPass}
 use Rattle.rooms.specs.Trees.{beneath, sum_beneath, child_sum}
 

@@ -8,8 +8,7 @@ use Rattle.rooms.specs.Rows.{OfRoom, NodesFit}
 use Rattle.layout.specs.Lists.{HasLowsBeneath}
 use Rattle.deals.specs.Wants.{first_wants}
 use Rattle.deals.specs.Judge.{below_low, above_want}
-use Rattle.judge_totals.specs.Totals.{CordsNoted}
-use Rattle.judge_totals.specs.declared.Notes.{Notes}
+use Rattle.judge_totals.specs.Totals.{Notes, CordsNoted}
 
 -- A good table, its count of nodes, and a list with the lows beneath each node.
 pub record NodesGiven (table : List ℕ) (nodes : ℕ) (beneath : List ℕ) : Type 0 where
@@ -24,7 +23,7 @@ pub record CordsPass (r : Room) (demands grants : List ℕ) (notes : Notes) : Ty
   pub grants_size : length grants ≡ room_cords r
   pub none_below : first_node (room_cords r) 0 (below_low r grants) ≡ 0
   pub none_above : first_node (room_cords r) 0 (above_want r demands grants) ≡ 0
-  pub noted : CordsNoted (nodes_of r) (levels_of r) (lows_of r) (first_wants r demands) grants notes
+  pub noted : CordsNoted most_nodes (nodes_of r) (levels_of r) (lows_of r) (first_wants r demands) grants notes
 
 -- So it is of a table's room, with some demands and grants.
 pub record SomePass (table : List ℕ) (notes : Notes) : Type 0 where

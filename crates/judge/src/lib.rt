@@ -5,6 +5,7 @@ ghost use Rattle.std.specs.Prelude.{◌≡◌, List, ℕ, length};
 ghost use Rattle.rooms.specs.Rows.{OfRoom, ServersFit, CordsFit, ScaleIs};
 ghost use Rattle.deals.specs.Judge.{verdict};
 ghost use Rattle.calls.specs.Call.{told_numbers};
+ghost use Rattle.judge_totals.specs.Totals.{notes_in};
 ghost use Rattle.judge.specs.Outcome.{judging, answer_of, judge_refusal_number, judge_refusal_place};
 ghost use Rattle.judge.specs.Call.{verdict_figures, judged_numbers, JudgeCall};
 ghost use Rattle.judge.specs.Lists.{NodesGiven, CordsPass, SomePass};
@@ -13,7 +14,7 @@ ghost use Rattle.judge.specs.declared.JudgeRefusal.TheVariants.{Load};
 use calls::Figures;
 use deals::Verdict;
 use demands::DECIDING_DEMANDS;
-use judge_totals::{Notes, lowest_marked, note_cords, note_nodes};
+use judge_totals::{lowest_marked, note_cords, note_nodes};
 use layout::load_nodes;
 use layout::room::{Counts, LoadRefusal, admit};
 use outcomes::Refusal;
@@ -81,21 +82,29 @@ impl Figures<3> for Told {
 
 // The verdict on grants that no cord has too little or too much of, by the notes of a good table's cords on their nodes. `beneath` has the
 // lows beneath each node, as the check of the table leaves them.
-fn judge_nodes(table: &[u32], nodes: usize, beneath: &[u64], notes: &mut Notes) -> Verdict
+fn judge_nodes(
+    table: &[u32],
+    nodes: usize,
+    beneath: &[u64],
+    given: &mut [u64; MOST_NODES],
+    raised: &mut [u16; MOST_NODES],
+    wanting: &mut [u16; MOST_NODES],
+) -> Verdict
     requires table { NodesGiven table.now nodes beneath.now }
-    requires noted { SomePass table.now notes.old }
-    ensures result { OfRoom table.now (λ r. (demands grants : List ℕ) → CordsPass r demands grants notes.old → result ≡ verdict r demands grants) }
+    requires noted { SomePass table.now (notes_in given.old raised.old wanting.old) }
+    ensures result { OfRoom table.now (λ r. (demands grants : List ℕ) →
+        CordsPass r demands grants (notes_in given.old raised.old wanting.old) → result ≡ verdict r demands grants) }
 {
     let mut parents = [0u16; MOST_NODES];
     let mut spare = [0u32; MOST_NODES];
     let parents = &mut parents[..nodes];
     let spare = &mut spare[..nodes];
     load_nodes(table, &beneath[..nodes], parents, spare);
-    if let Some(over) = note_nodes(parents, spare, notes) {
+    if let Some(over) = note_nodes(parents, spare, given, raised, wanting) {
         return Verdict::OverLimit(over + 1);
     }
-    if let Some(root) = lowest_marked(parents, &notes.wanting) {
-        return Verdict::Short(root + 1, usize::from(notes.wanting[root]));
+    if let Some(root) = lowest_marked(parents, wanting) {
+        return Verdict::Short(root + 1, usize::from(wanting[root]));
     }
     Verdict::Passes
 }
@@ -112,19 +121,32 @@ fn judge_room(
     requires sizes { ServersFit table.now (length demands.now) × CordsFit table.now (length grants.now) }
     ensures result { OfRoom table.now (λ r. result ≡ verdict r demands.now grants.now) }
 {
-    let mut notes = Notes {
-        given: [0; MOST_NODES],
-        raised: [HIGHEST_RANK; MOST_NODES],
-        wanting: [0; MOST_NODES],
-    };
-    let faults = note_cords(table, demands, grants, counts.scale, &mut notes);
+    let mut given = [0u64; MOST_NODES];
+    let mut raised = [HIGHEST_RANK; MOST_NODES];
+    let mut wanting = [0u16; MOST_NODES];
+    let faults = note_cords(
+        table,
+        demands,
+        grants,
+        counts.scale,
+        &mut given,
+        &mut raised,
+        &mut wanting,
+    );
     if let Some(cord) = faults.below {
         return Verdict::BelowLow(cord);
     }
     if let Some(cord) = faults.above {
         return Verdict::AboveWant(cord);
     }
-    judge_nodes(table, counts.nodes, beneath, &mut notes)
+    judge_nodes(
+        table,
+        counts.nodes,
+        beneath,
+        &mut given,
+        &mut raised,
+        &mut wanting,
+    )
 }
 
 // Judge: the verdict on a list of grants, of a table and its servers' demands; or why it is turned back.

@@ -12,11 +12,10 @@ use borrow.Author.Tests.{ltb-true, ltb-false, lt-ltb, le-ltb, leb-true, leb-fals
 use Rattle.figures.specs.Figures.{at}
 use Rattle.figures.specs.Sums.{on}
 use Rattle.figures.proofs.Sums.{on_yes, on_no, on_le}
-use Rattle.rooms.specs.Table.{most_nodes, highest_rank}
+use Rattle.rooms.specs.Table.{highest_rank}
 use Rattle.figures.proofs.Credits.{on_most, credited_none, credited_some, credited-length, credited-at, credited_past}
 use Rattle.deals.specs.Judge.{highest}
-use Rattle.judge_totals.specs.Totals.{Noted, merged, noted_on, held_back}
-use Rattle.judge_totals.specs.declared.Notes.{Notes}
+use Rattle.judge_totals.specs.Totals.{Noted, Notes, notes_in, merged, noted_on, held_back}
 
 -- ---- The same figures
 
@@ -211,16 +210,16 @@ unfolding merged
 merged_past with zero rank l i h = refl
 merged_past with (suc m) rank l i h = get_or-set_other l m i (with (at l m) rank) 0 (λ e. omega arith)
 
--- The notes of every node of a room.
-pub record Sized (notes : Notes) : Type 0 where
-  pub given : length notes.given ≡ most_nodes
-  pub raised : length notes.raised ≡ most_nodes
-  pub wanting : length notes.wanting ≡ most_nodes
+-- There are notes of so many nodes.
+pub record Sized (count : ℕ) (notes : Notes) : Type 0 where
+  pub given : count ≤ length notes.given
+  pub raised : count ≤ length notes.raised
+  pub wanting : count ≤ length notes.wanting
 
 -- The same notes, by their lists.
 notes_as : {given given' raised raised' wanting wanting' : List ℕ} → given ≡ given' → raised ≡ raised' → wanting ≡ wanting'
-    → ◌≡◌ {A = Notes} (record { given = given; raised = raised; wanting = wanting }) (record { given = given'; raised = raised'; wanting = wanting' })
-notes_as g r w = λ i. record { given = g i; raised = r i; wanting = w i }
+    → notes_in given raised wanting ≡ notes_in given' raised' wanting'
+notes_as g r w = λ i. notes_in (g i) (r i) (w i)
 
 module _ (node watts low high : ℕ) (notes : Notes) where
   -- Nothing is noted on no node.
@@ -229,20 +228,15 @@ module _ (node watts low high : ℕ) (notes : Notes) where
 
   -- On a node stands what code stores at its place.
   pub noted_there : (node ≡ 0 → ⊥) → {lower higher : ℕ} → lower ≡ min (at notes.raised (node - 1)) low → higher ≡ max (at notes.wanting (node - 1)) high
-      → ◌≡◌ {A = Notes}
-      (record {
-        given = set notes.given (node - 1) (at notes.given (node - 1) + watts);
-        raised = set notes.raised (node - 1) lower;
-        wanting = set notes.wanting (node - 1) higher;
-      })
-      (noted_on node watts low high notes)
+      → notes_in (set notes.given (node - 1) (at notes.given (node - 1) + watts)) (set notes.raised (node - 1) lower) (set notes.wanting (node - 1) higher)
+      ≡ noted_on node watts low high notes
   noted_there n l h = notes_as (credited_some node watts notes.given n) (merged_some min node low notes.raised n l) (merged_some max node high notes.wanting n h)
 
-  pub noted_sized : Sized notes → Sized (noted_on node watts low high notes)
+  pub noted_sized : {count : ℕ} → Sized count notes → Sized count (noted_on node watts low high notes)
   noted_sized s = record {
-    given = credited-length node watts notes.given ∙ s.given;
-    raised = merged-length min node low notes.raised ∙ s.raised;
-    wanting = merged-length max node high notes.wanting ∙ s.wanting;
+    given = omega (arith, credited-length node watts notes.given, s.given);
+    raised = omega (arith, merged-length min node low notes.raised, s.raised);
+    wanting = omega (arith, merged-length max node high notes.wanting, s.wanting);
   }
 
   -- A place past the node is left as it is.
@@ -253,11 +247,11 @@ module _ (node watts low high : ℕ) (notes : Notes) where
       (credited_past node watts notes.given i h) (merged_past min node low notes.raised i h) (merged_past max node high notes.wanting i h)
 
   -- What is noted on a node, where what a cord or a child node has is noted on its own.
-  pub noted_next : {given most given' most' : ℕ → ℕ} (i : ℕ) → Sized notes → node ≤ most_nodes
+  pub noted_next : {count : ℕ} {given most given' most' : ℕ → ℕ} (i : ℕ) → Sized count notes → node ≤ count
       → Noted given most (at notes.given i) (at notes.raised i) (at notes.wanting i) → Noted given' most' watts low high
       → let next : Notes = noted_on node watts low high notes in
       Noted (λ j. given j + on (eqb node (suc i)) (given' j)) (λ j. most j + on (eqb node (suc i)) (most' j)) (at next.given i) (at next.raised i) (at next.wanting i)
-  noted_next {given} {most} {given'} {most'} i s k n m =
+  noted_next {count} {given} {most} {given'} {most'} i s k n m =
       noted_same (go (eqb node (suc i))) (λ j l. refl) (λ j l. refl)
       (credited-at node watts notes.given i (omega (arith, s.given)))
       (merged-at min node low notes.raised i (omega (arith, s.raised)))

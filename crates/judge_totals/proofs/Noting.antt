@@ -20,13 +20,12 @@ use Rattle.figures.proofs.Lists.{sum_most}
 use Rattle.rooms.specs.Table.{most_nodes, most_cords, most_watts, highest_rank}
 use Rattle.rooms.specs.Limits.{first_node, found_node}
 use Rattle.rooms.specs.Credits.{tree_sum, exceeds}
-use Rattle.figures.proofs.Credits.{on_most, credited-at}
+use Rattle.figures.proofs.Credits.{on_most, credited-at, credited-length}
 use Rattle.rooms.proofs.Credits.{tree_sum_step}
 use Rattle.rooms.proofs.Gather.{Holds, holds_whole, Gathered, gathered_start, gathered_turn, gathered_end}
 use Rattle.rooms.proofs.Search.{NoneIn, first_node_cong}
 use Rattle.deals.specs.Ranks.{NodeLists}
-use Rattle.judge_totals.specs.Totals.{place_of, GrantedCords, over_low, on_node, from_level, Noted, AllNoted, Unnoted, CordsNoted, noted_on, held_back, IsMost, NodesNoted, over_from, Compared}
-use Rattle.judge_totals.specs.declared.Notes.{Notes}
+use Rattle.judge_totals.specs.Totals.{place_of, GrantedCords, over_low, on_node, from_level, Noted, AllNoted, Unnoted, CordsNoted, noted_on, held_back, IsMost, NodesNoted, over_from, Compared, Notes, notes_in}
 use Rattle.judge_totals.proofs.Noted.{Sized, noted_same, noted_none, noted_cord, noted_held, noted_next, noted_highest, noted_sized, past_node}
 use Rattle.judge_totals.proofs.Searching.{IsFirst, none_yet, first_here, first_stays, place_found}
 use Rattle.rooms.specs.Trees.{child_sum, sum_beneath}
@@ -45,22 +44,24 @@ abbrev above_its : (wants grants : List ℕ) → ℕ → Bool
 above_its wants grants h = ltb (at wants h) (at grants h)
 
 -- The first c cords had their turns: none of them is below its low, and they are noted if none is above its want.
-pub record CordTurns (nodes levels lows wants grants : List ℕ) (c : ℕ) (above : Option ℕ) (notes : Notes) : Type 0 where
-  pub size : Sized notes
+pub record CordTurns (count : ℕ) (nodes levels lows wants grants : List ℕ) (c : ℕ) (above : Option ℕ) (notes : Notes) : Type 0 where
+  pub all_given : length notes.given ≡ count
+  pub size : Sized count notes
   pub small : (n : ℕ) → at notes.given n ≤ c * 2 ^ 32
   pub below : NoneIn (below_its lows grants) 0 c
   pub first_above : IsFirst (above_its wants grants) c above
-  pub noted : above ≡ None → AllNoted most_nodes (sofar nodes levels (over_low lows grants) c) (sofar nodes levels (over_low lows wants) c) notes
+  pub noted : above ≡ None → AllNoted count (sofar nodes levels (over_low lows grants) c) (sofar nodes levels (over_low lows wants) c) notes
 
 -- The first cord above its want, with one more cord: that cord, if none was found before, or what was found.
 pub data AboveNext (above : Option ℕ) (want grant c : ℕ) (above' : Option ℕ) : Type 0 where
   here : above ≡ None → want < grant → above' ≡ Some c → AboveNext above want grant c above'
   stays : (above ≡ None → grant ≤ want) → above' ≡ above → AboveNext above want grant c above'
 
-module _ {nodes levels lows wants grants : List ℕ} where
-  pub cords_start : {notes : Notes} → Sized notes → ((n : ℕ) → at notes.given n ≡ 0) → Unnoted most_nodes notes
-      → CordTurns nodes levels lows wants grants 0 None notes
-  cords_start size zeros none = record {
+module _ {count : ℕ} {nodes levels lows wants grants : List ℕ} where
+  pub cords_start : {notes : Notes} → length notes.given ≡ count → Sized count notes → ((n : ℕ) → at notes.given n ≡ 0) → Unnoted count notes
+      → CordTurns count nodes levels lows wants grants 0 None notes
+  cords_start all size zeros none = record {
+    all_given = all;
     size = size;
     small = λ n. omega (arith, zeros n);
     below = λ m a b. absurd (omega arith);
@@ -68,8 +69,8 @@ module _ {nodes levels lows wants grants : List ℕ} where
     noted = λ z n l. noted_same (none n l) (λ j k. sum_none _) (λ j k. sum_none _) refl refl refl;
   }
 
-  module _ {c : ℕ} {above : Option ℕ} {notes : Notes} (inv : CordTurns nodes levels lows wants grants c above notes) where
-    pub cords-end : length nodes ≡ c → above ≡ None → CordsNoted nodes levels lows wants grants notes
+  module _ {c : ℕ} {above : Option ℕ} {notes : Notes} (inv : CordTurns count nodes levels lows wants grants c above notes) where
+    pub cords-end : length nodes ≡ c → above ≡ None → CordsNoted count nodes levels lows wants grants notes
     unfolding on_node
     cords-end e z n l =
         noted_same (inv.noted z n l)
@@ -105,7 +106,7 @@ module _ {nodes levels lows wants grants : List ℕ} where
           (λ e. omega (arith, ltb-true (at grants c) (at wants c) e)) (λ e. omega (arith, ltb-false (at grants c) (at wants c) e))
 
       -- The cord's turn.
-      module _ (there : node ≤ most_nodes) (word : over_low lows grants c < 2 ^ 32) where
+      module _ (there : node ≤ count) (word : over_low lows grants c < 2 ^ 32) where
         abbrev raised_by : ℕ
         raised_by = cond (ltb (at lows c) (at grants c)) (suc level) highest_rank
 
@@ -116,8 +117,9 @@ module _ {nodes levels lows wants grants : List ℕ} where
         more figure j n = sum_suc c (λ h. on (eqb (at nodes h) (suc n)) (from_level levels j figure h))
 
         cord_turn : {above' : Option ℕ} → AboveNext above (at wants c) (at grants c) c above'
-            → CordTurns nodes levels lows wants grants (c + 1) above' (noted_on node (over_low lows grants c) raised_by wanted_by notes)
+            → CordTurns count nodes levels lows wants grants (c + 1) above' (noted_on node (over_low lows grants c) raised_by wanted_by notes)
         cord_turn turned = record {
+          all_given = credited-length node (over_low lows grants c) notes.given ∙ inv.all_given;
           size = noted_sized node (over_low lows grants c) raised_by wanted_by notes inv.size;
           small = λ n.
               omega (
@@ -138,7 +140,7 @@ module _ {nodes levels lows wants grants : List ℕ} where
         pub cords_next : {of rank low' want grant : ℕ} {above' : Option ℕ} {notes' : Notes} → of ≡ node → rank ≡ suc level → low' ≡ at lows c → want ≡ at wants c
             → grant ≡ at grants c → AboveNext above want grant c above'
             → notes' ≡ noted_on of (grant - low') (cond (ltb low' grant) rank highest_rank) (cond (ltb grant want) rank 0) notes
-            → CordTurns nodes levels lows wants grants (c + 1) above' notes'
+            → CordTurns count nodes levels lows wants grants (c + 1) above' notes'
         cords_next en er el ew eg turned e = rw (e, er, en, el, ew, eg) (cord_turn (rw (ew, eg) at turned))
 
 -- ---- The nodes
@@ -153,7 +155,7 @@ pub record NodeTurns (parents spare : List ℕ) (notes₀ : Notes) (over : Optio
   pub number : ℕ
   pub over_is : over ≡ place_of number
   pub gathered : Gathered (at parents) (at spare) (length parents) notes₀.given (found_node number) n notes.given
-  pub size : Sized notes
+  pub size : Sized (length parents) notes
   pub turns : ℕ
   pub all : n + turns ≡ length parents
   pub to_come : (has own most : ℕ → ℕ → ℕ) → AllNoted (length parents) has own notes₀
@@ -164,7 +166,7 @@ pub record NodeTurns (parents spare : List ℕ) (notes₀ : Notes) (over : Optio
       → ((j : ℕ) → j < highest_rank → IsMost parents spare (own j) (most j)) → number ≡ 0 → (i : ℕ) → n ≤ i → i < length parents
       → Noted (λ j. tree_sum (at parents) (length parents) (has j) i) (λ j. most j i) (at notes.given i) (at notes.raised i) (at notes.wanting i)
 
-pub nodes_start : (parents spare : List ℕ) {notes : Notes} → Sized notes → NodeTurns parents spare notes None (length parents) notes
+pub nodes_start : (parents spare : List ℕ) {notes : Notes} → Sized (length parents) notes → NodeTurns parents spare notes None (length parents) notes
 unfolding up
 nodes_start parents spare {notes} size = record {
   number = 0;
@@ -200,7 +202,7 @@ module _ {parents spare : List ℕ} {notes₀ : Notes} {over : Option ℕ} {n : 
       no_number zero e = refl
       no_number (suc m) e = absurd (cc)
 
-module _ {parents spare : List ℕ} {notes₀ : Notes} (nodes : NodeLists parents spare) (sized : Sized notes₀) where
+module _ {parents spare : List ℕ} {notes₀ : Notes} (nodes : NodeLists parents spare) (sized : Sized (length parents) notes₀) where
   -- The turn of the node at place m.
   module _ {over : Option ℕ} {m : ℕ} {notes : Notes} (inv : NodeTurns parents spare notes₀ over (suc m) notes) where
     inside : m < length parents
@@ -220,7 +222,7 @@ module _ {parents spare : List ℕ} {notes₀ : Notes} (nodes : NodeLists parent
 
     -- The notes with the node's own held back, and then on its parent.
     abbrev held : Notes
-    held = record { given = notes.given; raised = notes.raised; wanting = set notes.wanting m high }
+    held = notes_in notes.given notes.raised (set notes.wanting m high)
 
     abbrev next : Notes
     next = noted_on (at parents m) has_here low high held
@@ -241,8 +243,8 @@ module _ {parents spare : List ℕ} {notes₀ : Notes} (nodes : NodeLists parent
         go true e z = absurd (omega arith)
         go false e z = (ltb-false limit has_here e, z)
 
-    held_size : Sized held
-    held_size = record { given = inv.size.given; raised = inv.size.raised; wanting = length-set notes.wanting m high ∙ inv.size.wanting }
+    held_size : Sized (length parents) held
+    held_size = record { given = inv.size.given; raised = inv.size.raised; wanting = omega (arith, length-set notes.wanting m high, inv.size.wanting) }
 
     module _ (has own most : ℕ → ℕ → ℕ) (all : AllNoted (length parents) has own notes₀)
         (is : (j : ℕ) → j < highest_rank → IsMost parents spare (own j) (most j)) (z : number' ≡ 0) where
@@ -261,7 +263,7 @@ module _ {parents spare : List ℕ} {notes₀ : Notes} (nodes : NodeLists parent
           let rise = nodes.rises m inside in
           let earlier = noted_same (inv.to_come has own most all is (before z).1 i (omega arith)) (λ j k. refl) (λ j k. refl) refl refl
           (get_or-set_other notes.wanting m i high 0 (λ q. omega arith)) in
-          noted_same (noted_next (at parents m) has_here low high held i held_size (omega (arith, rise, inside, nodes.few)) earlier whole_note)
+          noted_same (noted_next (at parents m) has_here low high held i held_size (omega (arith, rise, inside)) earlier whole_note)
           (λ j k. omega arith) (λ j k. omega arith) refl refl refl
 
       past : (i : ℕ) → (m ≡ i) ⊎ (m < i) → i < length parents
@@ -270,7 +272,7 @@ module _ {parents spare : List ℕ} {notes₀ : Notes} (nodes : NodeLists parent
           let rise = nodes.rises m inside in
           rw (← q)
           (past_node (at parents m) has_here low high held m rise
-          (noted_same whole_note (λ j k. refl) (λ j k. refl) refl refl (get_or-set_same notes.wanting m high 0 (omega (arith, inside, nodes.few, inv.size.wanting)))))
+          (noted_same whole_note (λ j k. refl) (λ j k. refl) refl refl (get_or-set_same notes.wanting m high 0 (omega (arith, inside, inv.size.wanting)))))
       past i (inr l) b =
           let rise : at parents m ≤ i = omega (arith, nodes.rises m inside) in
           past_node (at parents m) has_here low high held i rise
@@ -279,11 +281,10 @@ module _ {parents spare : List ℕ} {notes₀ : Notes} (nodes : NodeLists parent
     turn : NodeTurns parents spare notes₀ (cond (ltb limit has_here) (Some m) over) m next
     turn =
         let e : suc m - 1 ≡ m = omega arith in
-        let few : length parents ≤ length notes₀.given = omega (arith, nodes.few, sized.given) in
         record {
           number = number';
           over_is = ap (cond (ltb limit has_here) (Some m)) inv.over_is ∙ sym (place_found (ltb limit has_here) m inv.number);
-          gathered = rw (← node_found (ltb limit has_here) m inv.number) (rw e at (gathered_turn nodes.rises inv.gathered (omega arith) few refl refl refl refl refl));
+          gathered = rw (← node_found (ltb limit has_here) m inv.number) (rw e at (gathered_turn nodes.rises inv.gathered (omega arith) sized.given refl refl refl refl refl));
           size = noted_sized (at parents m) has_here low high held held_size;
           turns = suc inv.turns;
           all = omega (arith, inv.all);
@@ -297,7 +298,7 @@ module _ {parents spare : List ℕ} {notes₀ : Notes} (nodes : NodeLists parent
       → high ≡ held_back limit (at notes.given (n - 1)) (at notes.raised (n - 1)) (at notes.wanting (n - 1))
       → over' ≡ cond (ltb limit (at notes.given (n - 1))) (Some (n - 1)) over
       → notes' ≡ noted_on above (at notes.given (n - 1)) (at notes.raised (n - 1)) high
-      (record { given = notes.given; raised = notes.raised; wanting = set notes.wanting (n - 1) high })
+      (notes_in notes.given notes.raised (set notes.wanting (n - 1) high))
       → NodeTurns parents spare notes₀ over' (n - 1) notes'
   nodes_next {n = zero} inv p el ea ek eo en = absurd (omega arith)
   nodes_next {n = suc m} inv p el ea ek eo en =
@@ -308,7 +309,7 @@ module _ {parents spare : List ℕ} {notes₀ : Notes} (nodes : NodeLists parent
 
 module _ {parents spare nodes levels lows wants grants : List ℕ} (of_nodes : NodeLists parents spare)
     (lists : GrantedCords (length parents) nodes levels lows wants grants) where
-  module _ (notes : Notes) (noted : CordsNoted nodes levels lows wants grants notes) where
+  module _ (notes : Notes) (noted : CordsNoted most_nodes nodes levels lows wants grants notes) where
     -- All nodes' own watts together are few.
     pub given_few : sum (length parents) (at notes.given) < 2 ^ 63
     unfolding on_node
@@ -354,6 +355,6 @@ module _ {parents spare nodes levels lows wants grants : List ℕ} (of_nodes : N
 
 -- Nothing is noted before the first cord.
 pub unnoted : (wanting : List ℕ) → ((n : ℕ) → at wanting n ≡ 0)
-    → Unnoted most_nodes (record { given = replicate most_nodes 0; raised = replicate most_nodes highest_rank; wanting = wanting })
+    → Unnoted most_nodes (notes_in (replicate most_nodes 0) (replicate most_nodes highest_rank) wanting)
 unnoted wanting none n l =
     noted_same noted_none (λ j q. refl) (λ j q. refl) (zeros-at most_nodes n) (get_or-replicate {A = ℕ} most_nodes n highest_rank 0 l) (none n)

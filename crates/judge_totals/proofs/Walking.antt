@@ -22,14 +22,14 @@ use Rattle.deals.specs.Wants.{first_wants}
 use Rattle.deals.specs.Judge.{below_low, above_want}
 use Rattle.deals.proofs.RoomDeals.{nodes_of-length, nodes_of-at, levels_of-at}
 use Rattle.layout.proofs.Carrying.{CordStands, cord_stands, carried_as, low_is, want_is}
-use Rattle.judge_totals.specs.Totals.{Unnoted, CordsJudged, noted_on}
-use Rattle.judge_totals.specs.declared.Notes.{Notes}
+use Rattle.judge_totals.specs.Totals.{Unnoted, CordsJudged, Notes, noted_on}
 use Rattle.judge_totals.proofs.Noted.{Sized}
 use Rattle.judge_totals.proofs.Searching.{is_first}
 use Rattle.judge_totals.proofs.Noting.{CordTurns, AboveNext, cords_start, cords_next, cords-end}
 
 -- The walk stands before the server at place v, whose cords stand from place `first` on; the cords before place c had their turns.
-pub record Walking (table demands grants : List ℕ) (scale v start first c : ℕ) (above : Option ℕ) (notes : Notes) : Type 0 where
+pub record Walking (count : ℕ) (table demands grants : List ℕ) (scale v start first c : ℕ) (above : Option ℕ) (notes : Notes) : Type 0 where
+  pub enough : most_nodes ≤ count
   pub room : Room
   pub end : ℕ
   pub read : checked table 0 ≡ good room end
@@ -37,27 +37,28 @@ pub record Walking (table demands grants : List ℕ) (scale v start first c : �
   pub demands_size : length demands ≡ length room.servers
   pub grants_size : length grants ≡ room_cords room
   pub walk : Walk table room v start first
-  pub turns : CordTurns (nodes_of room) (levels_of room) (lows_of room) (first_wants room demands) grants c above notes
+  pub turns : CordTurns count (nodes_of room) (levels_of room) (lows_of room) (first_wants room demands) grants c above notes
 
 -- Within that server, of which these figures are read: the words of the cord at place c start at index `word`.
-pub record WalkingServer (table demands grants : List ℕ) (scale v start first rank least need count c word : ℕ) (above : Option ℕ) (notes : Notes) : Type 0 where
-  pub walking : Walking table demands grants scale v start first c above notes
+pub record WalkingServer (count : ℕ) (table demands grants : List ℕ) (scale v start first rank least need cords c word : ℕ) (above : Option ℕ) (notes : Notes) : Type 0 where
+  pub walking : Walking count table demands grants scale v start first c above notes
   pub more : v < length demands
   pub rank_is : rank ≡ at table start
   pub least_is : least ≡ at table (start + 1)
   pub need_is : need ≡ min (max (at demands v) (at table (start + 1))) (at table (start + 2))
-  pub counted : count ≡ at table (start + 3)
+  pub counted : cords ≡ at table (start + 3)
   pub from : first ≤ c
-  pub to : c ≤ first + count
+  pub to : c ≤ first + cords
   pub next : word + 2 * first ≡ start + 4 + 2 * c
 
 walk_to : {table : List ℕ} {r : Room} {v i j c d : ℕ} → i ≡ j → c ≡ d → Walk table r v j d → Walk table r v i c
 walk_to e f walk = rw (e, f) walk
 
-pub walking_start : {table demands grants : List ℕ} {scale : ℕ} {notes : Notes} (g : Good (checked table 0)) → ScaleIs table scale
-    → ServersFit table (length demands) → CordsFit table (length grants) → Sized notes → ((n : ℕ) → at notes.given n ≡ 0) → Unnoted most_nodes notes
-    → {start : ℕ} → start ≡ servers_index table + 1 → Walking table demands grants scale 0 start 0 0 None notes
-walking_start g si sf cf size zeros none e = record {
+pub walking_start : {count : ℕ} {table demands grants : List ℕ} {scale : ℕ} {notes : Notes} → most_nodes ≤ count → (g : Good (checked table 0)) → ScaleIs table scale
+    → ServersFit table (length demands) → CordsFit table (length grants) → length notes.given ≡ count → Sized count notes → ((n : ℕ) → at notes.given n ≡ 0) → Unnoted count notes
+    → {start : ℕ} → start ≡ servers_index table + 1 → Walking count table demands grants scale 0 start 0 0 None notes
+walking_start enough g si sf cf all size zeros none e = record {
+  enough = enough;
   room = g.value;
   end = g.next;
   read = g.is;
@@ -65,11 +66,11 @@ walking_start g si sf cf size zeros none e = record {
   demands_size = sf g.value g.next g.is;
   grants_size = cf g.value g.next g.is;
   walk = walk_to e refl (walk_start g.is);
-  turns = cords_start size zeros none;
+  turns = cords_start all size zeros none;
 }
 
-module _ {table demands grants : List ℕ} {scale v start first c : ℕ} {above : Option ℕ} {notes : Notes}
-    (walking : Walking table demands grants scale v start first c above notes) where
+module _ {count : ℕ} {table demands grants : List ℕ} {scale v start first c : ℕ} {above : Option ℕ} {notes : Notes}
+    (walking : Walking count table demands grants scale v start first c above notes) where
   ok : Accepted walking.room
   ok = accepted table walking.room walking.end walking.read
 
@@ -82,9 +83,9 @@ module _ {table demands grants : List ℕ} {scale v start first c : ℕ} {above 
   pub few-servers : v < length demands → v < most_servers
   few-servers more = omega (arith, walking.demands_size, ok.few_servers)
 
-  pub server_begin : (more : v < length demands) → {rank least need count : ℕ} → rank ≡ at table start → least ≡ at table (start + 1)
-      → need ≡ min (max (at demands v) (at table (start + 1))) (at table (start + 2)) → count ≡ at table (start + 3) → c ≡ first
-      → WalkingServer table demands grants scale v start first rank least need count c (start + 4) above notes
+  pub server_begin : (more : v < length demands) → {rank least need cords : ℕ} → rank ≡ at table start → least ≡ at table (start + 1)
+      → need ≡ min (max (at demands v) (at table (start + 1))) (at table (start + 2)) → cords ≡ at table (start + 3) → c ≡ first
+      → WalkingServer count table demands grants scale v start first rank least need cords c (start + 4) above notes
   server_begin more er el en ec e = record {
     walking = walking;
     more = more;
@@ -99,7 +100,7 @@ module _ {table demands grants : List ℕ} {scale v start first c : ℕ} {above 
 
   -- All servers are passed.
   pub judged-all : length demands ≤ v → c ≡ first → (r : Room) (end : ℕ) → checked table 0 ≡ good r end
-      → CordsJudged r demands grants (record { below = None; above = above }) notes
+      → CordsJudged r demands grants count (record { below = None; above = above }) notes
   judged-all h e r end is =
       let read = walking.read in
       let same : walking.room ≡ r = cc in
@@ -113,7 +114,7 @@ module _ {table demands grants : List ℕ} {scale v start first c : ℕ} {above 
       })
 
 -- What code relies on at a cord.
-pub record CordFits (table grants : List ℕ) (scale least need c word : ℕ) (notes : Notes) : Type 0 where
+pub record CordFits (count : ℕ) (table grants : List ℕ) (scale least need c word : ℕ) (notes : Notes) : Type 0 where
   pub there : word + 1 < length table
   pub few : c < most_cords
   pub in_grants : c < length grants
@@ -121,12 +122,12 @@ pub record CordFits (table grants : List ℕ) (scale least need c word : ℕ) (n
   pub share_most : at table (word + 1) ≤ scale
   pub least_most : least ≤ most_watts
   pub need_most : need ≤ most_watts
-  pub node_most : at table word ≤ most_nodes
+  pub node_most : at table word ≤ count
   pub small : (n : ℕ) → at notes.given n < 2 ^ 63
 
-module _ {table demands grants : List ℕ} {scale v start first rank least need count c word : ℕ} {above : Option ℕ} {notes : Notes}
-    (server : WalkingServer table demands grants scale v start first rank least need count c word above notes) where
-  abbrev walking : Walking table demands grants scale v start first c above notes
+module _ {count : ℕ} {table demands grants : List ℕ} {scale v start first rank least need cords c word : ℕ} {above : Option ℕ} {notes : Notes}
+    (server : WalkingServer count table demands grants scale v start first rank least need cords c word above notes) where
+  abbrev walking : Walking count table demands grants scale v start first c above notes
   walking = server.walking
 
   abbrev r : Room
@@ -136,11 +137,12 @@ module _ {table demands grants : List ℕ} {scale v start first rank least need 
   standing = walking_server walking server.more
 
   -- The server is passed, after its cords.
-  pub server-end : first + count ≤ c → Walking table demands grants scale (v + 1) word (first + count) (first + count) above notes
+  pub server-end : first + cords ≤ c → Walking count table demands grants scale (v + 1) word (first + cords) (first + cords) above notes
   server-end h =
-      let all : first + count ≡ c = omega (arith, server.to) in
+      let all : first + cords ≡ c = omega (arith, server.to) in
       let w : word ≡ start + (4 + 2 * at table (start + 3)) = omega (arith, server.counted, server.next) in
       record {
+        enough = walking.enough;
         room = r;
         end = walking.end;
         read = walking.read;
@@ -151,7 +153,7 @@ module _ {table demands grants : List ℕ} {scale v start first rank least need 
         turns = rw all walking.turns;
       }
 
-  module _ (short : c < first + count) where
+  module _ (short : c < first + cords) where
     cord : CordStands table r v c word
     cord = cord_stands standing server.from (omega (arith, server.counted)) server.next
 
@@ -161,7 +163,7 @@ module _ {table demands grants : List ℕ} {scale v start first rank least need 
     in_nodes : c < length (nodes_of r)
     in_nodes = omega (arith, within, nodes_of-length r)
 
-    pub cord_fits : CordFits table grants scale least need c word notes
+    pub cord_fits : CordFits count table grants scale least need c word notes
     cord_fits =
         let node = cord.node_most in
         let share = cord.share_most in
@@ -175,7 +177,7 @@ module _ {table demands grants : List ℕ} {scale v start first rank least need 
           share_most = omega (arith, share, walking.scale_is);
           least_most = omega (arith, server.least_is, standing.ordered, standing.most);
           need_most = omega (arith, server.need_is, standing.most);
-          node_most = omega (arith, node, few);
+          node_most = omega (arith, node, few, walking.enough);
           small = λ n. omega (arith, turns.small n, within, (ok walking).few_cords);
         }
 
@@ -199,7 +201,7 @@ module _ {table demands grants : List ℕ} {scale v start first rank least need 
     -- It has less than its low.
     pub judged_below : {low : ℕ} → low ≡ carried scale (at table (word + 1)) least → at grants c < low
         → (q : Room) (end : ℕ) → checked table 0 ≡ good q end
-        → CordsJudged q demands grants (record { below = Some c; above = above }) notes
+        → CordsJudged q demands grants count (record { below = Some c; above = above }) notes
     judged_below e h q end read' =
         let read = walking.read in
         let same : r ≡ q = cc in
@@ -221,18 +223,19 @@ module _ {table demands grants : List ℕ} {scale v start first rank least need 
         → want ≡ carried scale (at table (word + 1)) need → grant ≡ at grants c → low ≤ grant → grant - low < 2 ^ 32
         → AboveNext above want grant c above'
         → notes' ≡ noted_on node (grant - low) (cond (ltb low grant) rank highest_rank) (cond (ltb grant want) rank 0) notes
-        → WalkingServer table demands grants scale v start first rank least need count (c + 1) (word + 2) above' notes'
+        → WalkingServer count table demands grants scale v start first rank least need cords (c + 1) (word + 2) above' notes'
     server-cord {node} {low} {want} {grant} {above'} {notes'} en el ew eg le lt turned e =
         let fits = cord_fits in
         let turns = walking.turns in
         let en' : node ≡ at (nodes_of r) c = en ∙ sym node_is in
         let el' : low ≡ at (lows_of r) c = el ∙ sym low-at in
         let ew' : want ≡ at (first_wants r demands) c = ew ∙ sym want_at in
-        let next : CordTurns (nodes_of r) (levels_of r) (lows_of r) (first_wants r demands) grants (c + 1) above' notes'
+        let next : CordTurns count (nodes_of r) (levels_of r) (lows_of r) (first_wants r demands) grants (c + 1) above' notes'
         = cords_next turns in_nodes ranked (omega (arith, el', eg, le)) (omega (arith, node_is, fits.node_most))
         (omega (arith, el', eg, lt)) en' rank_at el' ew' eg turned e in
         record {
           walking = record {
+            enough = walking.enough;
             room = r;
             end = walking.end;
             read = walking.read;

@@ -4,14 +4,13 @@ use Rattle.std.specs.Prelude.{◌≡◌, Bool, cond, List, ℕ, zero, suc, ◌+�
 use Rattle.figures.specs.Credits.{credited}
 use Rattle.figures.specs.Figures.{at}
 use Rattle.figures.specs.Sums.{on, sum}
-use Rattle.rooms.specs.Table.{Room, most_nodes, most_cords, most_watts, highest_rank, room_cords}
+use Rattle.rooms.specs.Table.{Room, most_cords, most_watts, highest_rank, room_cords}
 use Rattle.rooms.specs.Limits.{first_node}
 use Rattle.rooms.specs.Credits.{tree_sum}
 use Rattle.rooms.specs.Lists.{nodes_of, levels_of, lows_of}
 use Rattle.deals.specs.Wants.{first_wants}
 use Rattle.deals.specs.Judge.{highest, below_low, above_want}
 use Rattle.judge_totals.specs.declared.Faults.{Faults}
-use Rattle.judge_totals.specs.declared.Notes.{Notes}
 use Rattle.rooms.specs.Trees.{sum_beneath}
 
 -- The place that a number tells: none for 0.
@@ -61,6 +60,15 @@ pub record Noted (given most : ℕ → ℕ) (watts raised wanting : ℕ) : Type 
   pub none_higher : (j : ℕ) → j < highest_rank → wanting ≤ j → given j ≡ most j
   pub less : (j : ℕ) → wanting ≡ suc j → given j < most j
 
+-- The notes on nodes, by their lists: of each node watts, the lowest rank that they are of, and the highest rank that could have more.
+pub record Notes : Type 0 where
+  pub given : List ℕ
+  pub raised : List ℕ
+  pub wanting : List ℕ
+
+abbrev pub notes_in : (given raised wanting : List ℕ) → Notes
+notes_in given raised wanting = record { given = given; raised = raised; wanting = wanting }
+
 -- It is noted of each of so many nodes.
 abbrev pub AllNoted : ℕ → (given most : ℕ → ℕ → ℕ) → Notes → Type 0
 AllNoted count given most notes =
@@ -71,18 +79,18 @@ abbrev pub Unnoted : ℕ → Notes → Type 0
 Unnoted count = AllNoted count (λ j n. 0) (λ j n. 0)
 
 -- The cords' own notes on their nodes.
-abbrev pub CordsNoted : (nodes levels lows wants grants : List ℕ) → Notes → Type 0
-CordsNoted nodes levels lows wants grants =
-    AllNoted most_nodes (λ j. on_node nodes (from_level levels j (over_low lows grants)))
+abbrev pub CordsNoted : (count : ℕ) (nodes levels lows wants grants : List ℕ) → Notes → Type 0
+CordsNoted count nodes levels lows wants grants =
+    AllNoted count (λ j. on_node nodes (from_level levels j (over_low lows grants)))
     (λ j. on_node nodes (from_level levels j (over_low lows wants)))
 
 -- What the pass over a room's cords finds and leaves: the first cord below its low; if there is none, the first above its want; and if
 -- there is none either, the notes of all.
-pub record CordsJudged (r : Room) (demands grants : List ℕ) (faults : Faults) (notes : Notes) : Type 0 where
+pub record CordsJudged (r : Room) (demands grants : List ℕ) (count : ℕ) (faults : Faults) (notes : Notes) : Type 0 where
   pub below_is : faults.below ≡ place_of (first_node (room_cords r) 0 (below_low r grants))
   pub above_is : faults.below ≡ None → faults.above ≡ place_of (first_node (room_cords r) 0 (above_want r demands grants))
   pub noted : faults.below ≡ None → faults.above ≡ None
-      → CordsNoted (nodes_of r) (levels_of r) (lows_of r) (first_wants r demands) grants notes
+      → CordsNoted count (nodes_of r) (levels_of r) (lows_of r) (first_wants r demands) grants notes
 
 -- A rank merged with the one that stands on a node, by the node's number; 0 is no node.
 unfoldable pub merged : (ℕ → ℕ → ℕ) → ℕ → ℕ → List ℕ → List ℕ
@@ -92,7 +100,7 @@ merged with (suc m) rank l = set l m (with (at l m) rank)
 -- The notes with watts, the lowest rank that they are of and the highest rank that could have more, noted on a node by its number.
 abbrev pub noted_on : (node watts low high : ℕ) → Notes → Notes
 noted_on node watts low high notes =
-    record { given = credited node watts notes.given; raised = merged min node low notes.raised; wanting = merged max node high notes.wanting }
+    notes_in (credited node watts notes.given) (merged min node low notes.raised) (merged max node high notes.wanting)
 
 -- The highest rank that could have more, with the node's limit.
 abbrev pub held_back : ℕ → ℕ → ℕ → ℕ → ℕ

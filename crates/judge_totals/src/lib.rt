@@ -15,12 +15,12 @@ ghost use Rattle.rooms.specs.Limits.{checked, first_node};
 ghost use Rattle.rooms.specs.Rows.{OfRoom, ServersFit, CordsFit, ScaleIs};
 ghost use Rattle.rooms.specs.Credits.{exceeds};
 ghost use Rattle.deals.specs.Ranks.{NodeLists};
-ghost use Rattle.judge_totals.specs.Totals.{place_of, noted_on, held_back, Unnoted, CordsJudged, NodesNoted};
+ghost use Rattle.judge_totals.specs.Totals.{place_of, notes_in, noted_on, held_back, Unnoted, CordsJudged, NodesNoted};
 
 use layout::need_of;
+use rooms::HIGHEST_RANK;
 use rooms::limits::carried_by;
 use rooms::lists::first_server;
-use rooms::{HIGHEST_RANK, MOST_NODES};
 
 // What the pass over the cords finds: the first cord that has less than its low, and the first that has more than its want, of those before
 // it.
@@ -30,45 +30,64 @@ pub struct Faults {
     pub above: Option<usize>,
 }
 
-// What is noted on each node: watts, the lowest rank that they are of, and the highest rank that could have more.
-// By hand: no rank is the highest rank in `raised` and 0 in `wanting`, since so the lower and the higher of two are `min` and `max`.
-#[derive(Drop)]
-pub struct Notes {
-    pub given: [u64; MOST_NODES],
-    pub raised: [u16; MOST_NODES],
-    pub wanting: [u16; MOST_NODES],
+// Notes on a node, by its number, what a cord or a child node has: watts, the lowest rank that they are of, and the highest rank that could
+// have more; 0 is no node. No rank is the highest rank in `raised` and 0 in `wanting`: so the lower and the higher of two are `min` and `max`.
+// By hand: three slices, here and below: a caller learns nothing of a struct of `&mut`s unless each contract keeps all their ghost names.
+fn note(
+    node: usize,
+    watts: u64,
+    low: u16,
+    high: u16,
+    given: &mut [u64],
+    raised: &mut [u16],
+    wanting: &mut [u16],
+)
+    requires node { (node ≤ length given.old) × (node ≤ length raised.old) × (node ≤ length wanting.old) }
+    requires sum_fits { at given.old (node - 1) + watts < 2 ^ 64 }
+    ensures noted { notes_in given.new raised.new wanting.new
+        ≡ noted_on node watts low high (notes_in given.old raised.old wanting.old) }
+{
+    // By hand: 0 is no node in the table itself, and a list of Options would take twice the memory.
+    if node == 0 {
+        return;
+    }
+    let place = node - 1;
+    given[place] += watts;
+    raised[place] = raised[place].min(low);
+    wanting[place] = wanting[place].max(high);
 }
 
-impl Notes {
-    // Notes on a node, by its number, what a cord or a child node has; 0 is no node.
-    fn note(&mut self, node: usize, watts: u64, low: u16, high: u16)
-        requires node { node ≤ most_nodes }
-        requires sum_fits { at self.old.given (node - 1) + watts < 2 ^ 64 }
-        ensures noted { self.new ≡ noted_on node watts low high self.old }
-    {
-        // By hand: 0 is no node in the table itself, and a list of Options would take twice the memory.
-        if node == 0 {
-            return;
-        }
-        let place = node - 1;
-        self.given[place] += watts;
-        self.raised[place] = self.raised[place].min(low);
-        self.wanting[place] = self.wanting[place].max(high);
-    }
-
-    // Notes on its node what a cord has over its low, and its rank: where it has such watts, and where it wants more. The highest rank
-    // stands also for the lowest rank of no watts: no rank is above it.
-    fn note_cord(&mut self, node: usize, rank: u16, low: u32, want: u32, grant: u32)
-        requires node { node ≤ most_nodes }
-        requires least { low ≤ grant }
-        requires sum_fits { at self.old.given (node - 1) < 2 ^ 63 }
-        ensures noted { self.new ≡ noted_on node (grant - low) (cond (ltb low grant) rank highest_rank) (cond (ltb grant want) rank 0) self.old }
-        ensures word { grant - low < 2 ^ 32 }
-    {
-        let lowest = if low < grant { rank } else { HIGHEST_RANK };
-        let highest = if grant < want { rank } else { 0 };
-        self.note(node, u64::from(grant - low), lowest, highest);
-    }
+// Notes on its node what a cord has over its low, and its rank: where it has such watts, and where it wants more. The highest rank stands
+// also for the lowest rank of no watts: no rank is above it.
+fn note_cord(
+    node: usize,
+    rank: u16,
+    low: u32,
+    want: u32,
+    grant: u32,
+    given: &mut [u64],
+    raised: &mut [u16],
+    wanting: &mut [u16],
+)
+    requires node { (node ≤ length given.old) × (node ≤ length raised.old) × (node ≤ length wanting.old) }
+    requires least { low ≤ grant }
+    requires sum_fits { at given.old (node - 1) < 2 ^ 63 }
+    ensures noted { notes_in given.new raised.new wanting.new
+        ≡ noted_on node (grant - low) (cond (ltb low grant) rank highest_rank) (cond (ltb grant want) rank 0)
+        (notes_in given.old raised.old wanting.old) }
+    ensures word { grant - low < 2 ^ 32 }
+{
+    let lowest = if low < grant { rank } else { HIGHEST_RANK };
+    let highest = if grant < want { rank } else { 0 };
+    note(
+        node,
+        u64::from(grant - low),
+        lowest,
+        highest,
+        given,
+        raised,
+        wanting,
+    );
 }
 
 // Notes what each cord of a good table has over its low, and its rank: where it has such watts, and where it wants more.
@@ -77,12 +96,18 @@ pub fn note_cords(
     demands: &[u32],
     grants: &[u32],
     scale: u32,
-    notes: &mut Notes,
+    given: &mut [u64],
+    raised: &mut [u16],
+    wanting: &mut [u16],
 ) -> Faults
     requires good { Good (checked table.now 0) × ScaleIs table.now scale }
     requires sizes { ServersFit table.now (length demands.now) × CordsFit table.now (length grants.now) }
-    requires unnoted { ((n : ℕ) → at notes.old.given n ≡ 0) × Unnoted most_nodes notes.old }
-    ensures judged { OfRoom table.now (λ r. CordsJudged r demands.now grants.now result notes.new) }
+    requires lengths { (most_nodes ≤ length given.old) × (length given.old ≤ length raised.old)
+        × (length given.old ≤ length wanting.old) }
+    requires unnoted { ((n : ℕ) → at given.old n ≡ 0)
+        × Unnoted (length given.old) (notes_in given.old raised.old wanting.old) }
+    ensures judged { OfRoom table.now (λ r. CordsJudged r demands.now grants.now
+        (length given.old) result (notes_in given.new raised.new wanting.new)) }
 {
     let mut above = None;
     let mut start = first_server(table);
@@ -108,7 +133,16 @@ pub fn note_cords(
             if above.is_none() && want < grant {
                 above = Some(c);
             }
-            notes.note_cord(table[word] as usize, rank, low, want, grant);
+            note_cord(
+                table[word] as usize,
+                rank,
+                low,
+                want,
+                grant,
+                given,
+                raised,
+                wanting,
+            );
             word += 2;
         }
         first += count;
@@ -127,25 +161,42 @@ fn held_back(limit: u64, has: u64, low: u16, high: u16) -> u16
 
 // From the last node to the first: what each node has, with all that is beneath it, is held against its limit and noted on its parent.
 // The lowest node that is given more than it has to spare. What a limit has over the lows beneath its node is the limit here.
-pub fn note_nodes(parents: &[u16], spare: &[u32], notes: &mut Notes) -> Option<usize>
+pub fn note_nodes(
+    parents: &[u16],
+    spare: &[u32],
+    given: &mut [u64],
+    raised: &mut [u16],
+    wanting: &mut [u16],
+) -> Option<usize>
     requires node_lists { NodeLists parents.now spare.now }
-    requires sums_fit { sum (length parents.now) (at notes.old.given) < 2 ^ 63 }
+    requires lengths { (length parents.now ≤ length given.old) × (length parents.now ≤ length raised.old)
+        × (length parents.now ≤ length wanting.old) }
+    requires sums_fit { sum (length parents.now) (at given.old) < 2 ^ 63 }
     ensures result { result ≡ place_of (first_node (length parents.now) 0
-        (exceeds (at parents.now) (at spare.now) (length parents.now) notes.old.given)) }
+        (exceeds (at parents.now) (at spare.now) (length parents.now) given.old)) }
     ensures within { IfSome result (λ n. n < length parents.now) }
-    ensures noted { NodesNoted parents.now spare.now result notes.old notes.new }
+    ensures noted { NodesNoted parents.now spare.now result (notes_in given.old raised.old wanting.old)
+        (notes_in given.new raised.new wanting.new) }
 {
     let mut over = None;
     for n in (0..parents.len()).rev() {
         let limit = u64::from(spare[n]);
-        let has = notes.given[n];
-        let low = notes.raised[n];
-        let high = held_back(limit, has, low, notes.wanting[n]);
+        let has = given[n];
+        let low = raised[n];
+        let high = held_back(limit, has, low, wanting[n]);
         if limit < has {
             over = Some(n);
         }
-        notes.wanting[n] = high;
-        notes.note(usize::from(parents[n]), has, low, high);
+        wanting[n] = high;
+        note(
+            usize::from(parents[n]),
+            has,
+            low,
+            high,
+            given,
+            raised,
+            wanting,
+        );
     }
     over
 }

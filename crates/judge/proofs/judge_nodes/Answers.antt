@@ -2,6 +2,7 @@
 use mathlib.Core.Path.{◌≡◌, sym, ◌∙◌}
 use mathlib.Core.List.{List}
 use Prim.Native.Nat.{ℕ}
+use native.Mathlib.Omega.{arith}
 use Rattle.figures.proofs.Cells.{zeros-front}
 use Rattle.rooms.specs.Part.{good}
 use Rattle.rooms.specs.Table.{Room, most_nodes}
@@ -9,7 +10,7 @@ use Rattle.rooms.specs.Limits.{checked}
 use Rattle.rooms.specs.Lists.{nodes_of, levels_of, lows_of}
 use Rattle.rooms.proofs.Accepted.{accepted}
 use Rattle.deals.specs.Wants.{first_wants}
-use Rattle.judge_totals.specs.Totals.{Compared}
+use Rattle.judge_totals.specs.Totals.{notes_in, Compared}
 use Rattle.judge_totals.proofs.Noting.{given_few, compared}
 use Rattle.judge.specs.Lists.{CordsPass}
 use Rattle.judge.proofs.Judging.{RoomNodes, node_lists, cord-lists, is_over, is-short, is_passes}
@@ -29,11 +30,11 @@ room_nodes c r end is =
 
 -- What the passes come to, by these lists.
 module _ (c : After-note_nodes) (r : Room) (end : ℕ) (is : checked c.args.table.now 0 ≡ good r end) (lists : RoomNodes r c.load_nodes.new.parents c.load_nodes.new.spare)
-    (demands grants : List ℕ) (pass : CordsPass r demands grants c.args.notes.now) where
-  passed : Compared c.load_nodes.new.parents c.load_nodes.new.spare (nodes_of r) (levels_of r) (lows_of r) (first_wants r demands) grants c.note_nodes.result c.note_nodes.new.notes.wanting
+    (demands grants : List ℕ) (pass : CordsPass r demands grants (notes_in c.args.given.now c.args.raised.now c.args.wanting.now)) where
+  passed : Compared c.load_nodes.new.parents c.load_nodes.new.spare (nodes_of r) (levels_of r) (lows_of r) (first_wants r demands) grants c.note_nodes.result c.note_nodes.new.wanting
   passed =
       let ok = accepted c.args.table.now r end is in
-      compared (node_lists r ok lists) (cord-lists r ok lists pass) c.args.notes.now pass.noted c.note_nodes.new.notes c.note_nodes.ensures.result c.note_nodes.ensures.noted
+      compared (node_lists r ok lists) (cord-lists r ok lists pass) _ pass.noted (notes_in c.note_nodes.new.given c.note_nodes.new.raised c.note_nodes.new.wanting) c.note_nodes.ensures.result c.note_nodes.ensures.noted
 
 pub note_nodes-requires : goal.note_nodes-requires
 note_nodes-requires c =
@@ -41,7 +42,12 @@ note_nodes-requires c =
     let lists = room_nodes (goal.at.note_nodes-requires c).After-load_nodes g.value g.next g.is in
     let ok = accepted c.args.table.now g.value g.next g.is in
     let pass = c.requires.noted.pass g.value g.next g.is in
-    record { node_lists = node_lists g.value ok lists; sums_fit = given_few (node_lists g.value ok lists) (cord-lists g.value ok lists pass) c.args.notes.now pass.noted }
+    let nodes = node_lists g.value ok lists in
+    record {
+      node_lists = nodes;
+      lengths = (omega (arith, nodes.few), omega (arith, nodes.few), omega (arith, nodes.few));
+      sums_fit = given_few nodes (cord-lists g.value ok lists pass) _ pass.noted;
+    }
 
 pub returns-in-Some : goal.returns-in-Some
 returns-in-Some c =

@@ -3,9 +3,11 @@ use mathlib.Core.Path.{◌≡◌, refl}
 use mathlib.Core.Bool.{Bool, true, false, not}
 use Prim.Native.Nat.{ℕ}
 use native.Mathlib.Omega.{arith}
+use lib.ListN.{length}
 use Rattle.std.specs.Prelude.{Option, None, Some}
 use Rattle.std.specs.Option.{is_some}
 use Rattle.figures.specs.Figures.{at}
+use Rattle.judge_totals.specs.Totals.{notes_in}
 use Rattle.judge_totals.proofs.Noted.{Sized}
 use Rattle.judge_totals.proofs.Noting.{AboveNext, here, stays}
 use Rattle.judge_totals.proofs.Walking.{walking_start, walking_server, server_begin, judged-all, server-end, cord_fits, judged_below, server-cord}
@@ -14,8 +16,9 @@ use Rattle.judge_totals.proofs.note_cords.Goals.{then-is_none+then-want-grant, e
 
 pub loop-v-init : goal.loop-v-init
 loop-v-init c =
-    let sized : Sized c.args.notes.now = record { given = omega arith; raised = omega arith; wanting = omega arith } in
-    walking_start c.requires.good.0 c.requires.good.1 c.requires.sizes.0 c.requires.sizes.1 sized c.requires.unnoted.0 c.requires.unnoted.1
+    let sized : Sized (length c.args.given.now) (notes_in c.args.given.now c.args.raised.now c.args.wanting.now)
+    = record { given = omega arith; raised = c.requires.lengths.1; wanting = c.requires.lengths.2 } in
+    walking_start c.requires.lengths.0 c.requires.good.0 c.requires.good.1 c.requires.sizes.0 c.requires.sizes.1 refl sized c.requires.unnoted.0 c.requires.unnoted.1
     c.first_server-start.ensures.result.0
 
 pub bounds-table-start : goal.bounds-table-start
@@ -34,7 +37,7 @@ pub bounds-table-start-in-loop-v-3 : goal.bounds-table-start-in-loop-v-3
 bounds-table-start-in-loop-v-3 c = omega (arith, (walking_server c.loop-v.invariant c.loop-v-test.true).there)
 
 pub loop-c-init : goal.loop-c-init
-loop-c-init c = server_begin c.loop-v.invariant c.loop-v-test.true refl refl c.need_of-need.ensures.need refl refl
+loop-c-init c = rw c.loop-v.invariant.turns.all_given (server_begin c.loop-v.invariant c.loop-v-test.true refl refl c.need_of-need.ensures.need refl refl)
 
 pub bounds-table-word : goal.bounds-table-word
 bounds-table-word c = (cord_fits c.loop-c.invariant c.loop-c-test.true).there
@@ -53,13 +56,19 @@ pub bounds-grants-c : goal.bounds-grants-c
 bounds-grants-c c = (cord_fits c.loop-c.invariant c.loop-c-test.true).in_grants
 
 pub returns-then-grant-low : goal.returns-then-grant-low
-returns-then-grant-low c = record { judged = judged_below c.loop-c.invariant c.loop-c-test.true c.carried_by-low.ensures.result c.if-grant-low.true }
+returns-then-grant-low c =
+    record {
+      judged = rw (← c.loop-v.invariant.turns.all_given) (judged_below c.loop-c.invariant c.loop-c-test.true c.carried_by-low.ensures.result c.if-grant-low.true);
+    }
 
 pub bounds-table-word-in-loop-c : goal.bounds-table-word-in-loop-c
 bounds-table-word-in-loop-c c = omega (arith, (cord_fits c.loop-c.invariant c.loop-c-test.true).there)
 
 pub note_cord-requires-clause-node : goal.note_cord-requires-clause-node
-note_cord-requires-clause-node c = (cord_fits c.loop-c.invariant c.loop-c-test.true).node_most
+note_cord-requires-clause-node c =
+    let node = (cord_fits c.loop-c.invariant c.loop-c-test.true).node_most in
+    let size = c.loop-c.invariant.walking.turns.size in
+    (omega (arith, node, size.given), omega (arith, node, size.raised), omega (arith, node, size.wanting))
 
 pub note_cord-requires-clause-sum_fits : goal.note_cord-requires-clause-sum_fits
 note_cord-requires-clause-sum_fits c = (cord_fits c.loop-c.invariant c.loop-c-test.true).small _
@@ -89,7 +98,7 @@ loop-c-preserved c =
     c.note_cord.ensures.word turned c.note_cord.ensures.noted
 
 pub loop-v-preserved : goal.loop-v-preserved
-loop-v-preserved c = server-end c.loop-c.invariant (omega (arith, c.loop-c-test.false))
+loop-v-preserved c = rw (← c.loop-v.invariant.turns.all_given) (server-end c.loop-c.invariant (omega (arith, c.loop-c-test.false)))
 
 pub returns : goal.returns
 returns c = record { judged = judged-all c.loop-v.invariant c.loop-v-test.false refl }

@@ -9,6 +9,7 @@ use borrow.Author.Tests.{lt-ltb, le-ltb}
 use Rattle.std.specs.Prelude.{Some}
 use Rattle.figures.specs.Figures.{at}
 use Rattle.rooms.proofs.Gather.{gathered_most}
+use Rattle.judge_totals.specs.Totals.{notes_in}
 use Rattle.judge_totals.proofs.Searching.{place_within}
 use Rattle.judge_totals.proofs.Noted.{Sized}
 use Rattle.judge_totals.proofs.Noting.{nodes_start, nodes_next, over-end, nodes-end}
@@ -16,7 +17,7 @@ use Rattle.judge_totals.proofs.note_nodes.Goals as goal
 use Rattle.judge_totals.proofs.note_nodes.Goals.{then-limit-has, else-limit-has}
 
 pub loop-n-init : goal.loop-n-init
-loop-n-init c = nodes_start _ _ (record { given = omega arith; raised = omega arith; wanting = omega arith })
+loop-n-init c = nodes_start _ _ (record { given = c.requires.lengths.0; raised = c.requires.lengths.1; wanting = c.requires.lengths.2 })
 
 pub note-requires-clause-sum_fits : goal.note-requires-clause-sum_fits
 note-requires-clause-sum_fits c =
@@ -27,8 +28,9 @@ note-requires-clause-sum_fits c =
 
 pub loop-n-preserved : goal.loop-n-preserved
 loop-n-preserved c =
-    let sized : Sized c.args.notes.now = record { given = omega arith; raised = omega arith; wanting = omega arith } in
-    let number_found : c.if-limit-has.over ≡ cond (ltb c.from-limit.result (at c.loop-n.notes.given (c.loop-n.n - 1))) (Some (c.loop-n.n - 1)) c.loop-n.over = elim c.if-limit-has.branch [
+    let sized : Sized (length c.args.parents.now) (notes_in c.args.given.now c.args.raised.now c.args.wanting.now)
+    = record { given = c.requires.lengths.0; raised = c.requires.lengths.1; wanting = c.requires.lengths.2 } in
+    let number_found : c.if-limit-has.over ≡ cond (ltb c.from-limit.result (at c.loop-n.given (c.loop-n.n - 1))) (Some (c.loop-n.n - 1)) c.loop-n.over = elim c.if-limit-has.branch [
       | then-limit-has w ↦ rw (lt-ltb _ _ w.if-limit-has.true) w.over-is
       | else-limit-has w ↦ rw (le-ltb _ _ w.if-limit-has.false) w.over-is
     ] in

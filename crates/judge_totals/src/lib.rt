@@ -31,7 +31,8 @@ pub struct Faults {
 }
 
 // Notes on a node, by its number, what a cord or a child node has: watts, the lowest rank that they are of, and the highest rank that could
-// have more; 0 is no node. No rank is the highest rank in `raised` and 0 in `wanting`: so the lower and the higher of two are `min` and `max`.
+// have more; 0 is no node.
+// By hand: no rank is the highest rank in `raised` and 0 in `wanting`, since so the lower and the higher of two are `min` and `max`.
 // By hand: three slices, here and below: a caller learns nothing of a struct of `&mut`s unless each contract keeps all their ghost names.
 fn note(
     node: usize,

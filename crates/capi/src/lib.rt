@@ -47,6 +47,7 @@ pub extern "C" fn hutplan_write(table: &[u8], sheet: &mut [u8], answer: &mut [u8
 
 // Plan: for each cord a grant, its headroom and the number of the node that holds it (0 for none), and for each server a cap, at the fronts
 // of their lists.
+// By hand: the seven buffers are the C interface (include/hutplan.h).
 #[unsafe(no_mangle)]
 pub extern "C" fn hutplan_plan(
     table: &[u8],

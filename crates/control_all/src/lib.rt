@@ -69,6 +69,7 @@ impl Cords<'_> {
     }
 
     // The tally of a controller's cords, from a place on: each reading is judged as it is read.
+    // By hand: the order of `Controller::tally`; one function for both is compiled apart, and a pass takes twice as long (DECISIONS).
     fn tally(&self, controller: Controller, at: usize) -> Result<Tally, StepRefusal>
         requires cords_long { CordsTo (at + 4) self.now.working.now self.now.budgets.now self.now.measured.now }
         ensures result { result ≡ judged_all (judged_first controller) 0

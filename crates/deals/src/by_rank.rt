@@ -40,6 +40,7 @@ pub fn deal(
         → DealMade (deal_from parents.now limits nodes.now ranks lows starts.now wants.now)
         left.new cuts.new grants.new }
 {
+    // By hand: a column is a rank, by its number, and the customer asks for an array of arrays.
     let mut requests = [[0u32; 16]; 512];
     let mut bases = [0u64; FIGURES];
     let mut wholes = [0u64; FIGURES];
@@ -47,6 +48,7 @@ pub fn deal(
     let mut before = [0u64; FIGURES];
     let mut dealt = [0u32; FIGURES];
     let n = parents.len();
+    // By hand: a level's number is also the column of its Requests (`request`).
     for level in (0..16).rev() {
         let from = usize::from(levels[level].from);
         let to = usize::from(levels[level].to);

@@ -42,6 +42,7 @@ pub fn deal_nodes(
 }
 
 // The grants of the listed cords: each its start and its part of its node's amount.
+// By hand: the lists of a deal: as one struct they were tried (`deals::by_rank::deal`).
 pub fn deal_cords(
     listed: &[u16],
     nodes: &[u16],

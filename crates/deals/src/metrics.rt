@@ -14,7 +14,7 @@ use figures::credit;
 
 // The starts (in `bases`) and the weights (in `wholes`) of the listed cords, each summed on its cord's node, of so many nodes. The sums of
 // the starts come as zeros.
-// By hand: `count` beside the lists, which are longer: each pass is lent them whole, as the next one wants them.
+// By hand: `count` is the bound in `LevelCords` and `CordsSummed`; lists of just that length would be a narrower parameter.
 pub fn add_cords(
     count: usize,
     listed: &[u16],
@@ -115,6 +115,7 @@ fn marked(mark: u16, level: usize, left: u64, whole: u64) -> u16
 // From the last active node to the first: a node's weight is taken and added to its parent's sum, as by `weigh`. Its Request is the starts
 // beneath it and its weight, and stands in its row; the weight by which it is dealt to is read from there. A node whose weight is less
 // than its children's is cut. Its starts are added to its parent's sum, and its own sum is 0 again for the next rank.
+// By hand: the lists of a deal: as one struct they were tried (`deals::by_rank::deal`).
 pub fn request(
     parents: &[u16],
     active: &[u16],

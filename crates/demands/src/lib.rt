@@ -16,7 +16,7 @@ const MOST_DIGITS: u32 = 8;
 const NO_DEMAND: u32 = 16_777_216;
 
 // What a line has come to so far.
-// By hand: as an Option of digits it would have no methods, and no name for what is not digits.
+// By hand: an Option of digits could have no methods of its own, and `None` would not say that the line is no number.
 #[derive(Clone, Copy)]
 pub enum DemandLine {
     // Digits alone: how many, and their number.

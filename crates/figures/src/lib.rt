@@ -32,6 +32,7 @@ pub fn first_not_below(bound: u32, list: &[u32]) -> Option<usize>
 }
 
 // A figure added to the one that stands on a node, by the node's number; 0 is no node.
+// By hand: 0 is no node in the table itself, and in `credited`.
 pub fn credit(sums: &mut [u64], node: usize, figure: u64)
     requires node { node ≤ length sums.old }
     requires no_overflow { get_or sums.old (node - 1) 0 + figure < 2 ^ 64 }

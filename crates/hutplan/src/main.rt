@@ -39,7 +39,7 @@ fn read_demands<R: Read>(input: &mut R, list: &mut [u32]) -> usize
 {
     let mut reading = DemandReading::start();
     let mut piece = [0u8; 4096];
-    // A loop has to end, and nothing says that the input does: no run uses up so many turns.
+    // By hand: a loop has to end, and nothing says that the input does: no run uses up so many turns.
     for _ in 0..u64::MAX {
         // A read that fails is the end of the input.
         let count = input.read(&mut piece).unwrap_or(0);
@@ -53,6 +53,7 @@ fn read_demands<R: Read>(input: &mut R, list: &mut [u32]) -> usize
 }
 
 // The print of a table with demands, by way of lists for the plan of any room.
+// By hand: `plans::plan` writes these lists; `print::Lists` has them only to be read.
 fn print_table(
     table: &[u32],
     demands: &[u32],
@@ -107,7 +108,7 @@ fn print_sheet(sheet: &[u8], demands: &[u32], table: &mut [u32], buffer: &mut [u
 }
 
 // The print of what was read: so many bytes at the front of the sheet, and so many demands at the front of their list.
-// By hand: the counts stand beside the lists, since `main`, which has no clause, is not to say how much of them counts.
+// By hand: `main` has no contract to prove a cut of the lists in, so that it hands on the counts.
 fn print_input(
     sheet: &[u8],
     bytes: usize,

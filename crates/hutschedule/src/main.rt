@@ -25,7 +25,7 @@ fn print_text(text: &[u8], table: &mut [u32], buffer: &mut [u8]) -> Result<usize
 }
 
 // What is written of the text that was read: so many bytes at its front.
-// By hand: the count stands beside the text, since `main`, which has no clause, is not to say how much of the text counts.
+// By hand: `main` has no contract to prove a cut of the text in, so that it hands on the count.
 fn print_input(
     text: &[u8],
     count: usize,

@@ -32,7 +32,7 @@ pub struct Faults {
 
 // Notes on a node, by its number, what a cord or a child node has: watts, the lowest rank that they are of, and the highest rank that could
 // have more; 0 is no node.
-// By hand: no rank is the highest rank in `raised` and 0 in `wanting`, since so the lower and the higher of two are `min` and `max`.
+// By hand: where there is none, `raised` has the highest rank and `wanting` 0, so that `min` and `max` alone merge two notes.
 // By hand: three slices, here and below: a caller learns nothing of a struct of `&mut`s unless each contract keeps all their ghost names.
 fn note(
     node: usize,
@@ -180,6 +180,7 @@ pub fn note_nodes(
         (notes_in given.new raised.new wanting.new) }
 {
     let mut over = None;
+    // By hand: the chips' build takes no `iter().rev()`, whose pointers stand in pairs (chips/portable.awk).
     for n in (0..parents.len()).rev() {
         let limit = u64::from(spare[n]);
         let has = given[n];
@@ -209,7 +210,7 @@ pub fn lowest_marked(parents: &[u16], marks: &[u16]) -> Option<usize>
     ensures result { result ≡ place_of (first_node (length parents.now) 0
         (λ n. eqb (at parents.now n) 0 && ltb 0 (at marks.now n))) }
 {
-    // By hand: the chips' build takes no iterator chain, whose pointers stand in pairs (chips/portable.awk).
+    // By hand: the chips' build takes no `position`, whose iterator holds pointers in pairs (chips/portable.awk).
     for (n, parent) in parents.iter().enumerate() {
         if *parent == 0 && marks[n] > 0 {
             return Some(n);

@@ -49,6 +49,7 @@ pub fn need_of(demand: u32, least: u32, greatest: u32) -> u32
 
 // The rows of a good table's cords, their lows, wants and ceilings, and its servers' needs by the demands, one a server; the wants are
 // those of the first deal. One walk over the table makes them all: no row of a server is kept.
+// By hand: the lists of `load_room`, for its reason.
 pub fn load_cords(
     table: &[u32],
     demands: &[u32],

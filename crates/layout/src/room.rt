@@ -55,8 +55,7 @@ impl Refusal for LoadRefusal {
     fn place(self) -> u64 {
         match self {
             LoadRefusal::Table(refusal) => refusal.place(),
-            LoadRefusal::DemandCount(place) => place as u64,
-            LoadRefusal::DemandTooLarge(place) => place as u64,
+            LoadRefusal::DemandCount(place) | LoadRefusal::DemandTooLarge(place) => place as u64,
         }
     }
 }
@@ -70,6 +69,7 @@ impl From<SheetRefusal> for LoadRefusal {
 }
 
 // A refusal of the loading, as one of Plan's.
+// By hand: the cases of `PlanRefusal` stand in its public definitions (deals/specs/Plan.antt), so that it cannot hold this one whole.
 impl From<LoadRefusal> for PlanRefusal {
     ghost from_gives = { λ refusal told. told ≡ refusal_of refusal };
 
@@ -110,8 +110,8 @@ pub fn admit(
 
 // Loads a room: its table and its servers' demands are checked, and of a good room the lists are laid out at the fronts of those lent, which
 // take any room's. Refused, it may leave anything in them.
-// By hand: the seven lists are no one struct, since the ceilings and the needs are the C call's own lists (`plan_bytes`): a struct of arrays
-// would have them twice in memory, and a struct of slices is not known to pass the chips' build (chips/portable.awk).
+// By hand: Plan lends lists of its own for ceilings and needs, `plan_bytes` C's: a struct of arrays would have these twice in memory,
+// and one of `&mut`s says nothing to a caller of its lists unless each contract keeps all their ghost names.
 pub fn load_room(
     table: &[u32],
     demands: &[u32],
@@ -151,6 +151,7 @@ pub fn load_room(
 
 // The same of a table and demands in bytes. Their words stand in lists of its own, of which the first decide every answer: none of them
 // takes any memory once the room is loaded.
+// By hand: the lists of `load_room`, for its reason.
 pub fn load_bytes(
     table: &[u8],
     demands: &[u8],

@@ -46,7 +46,7 @@ pub struct Side {
     pub down: u32,
 }
 
-// How many words both parts have.
+// How many words each part has.
 #[derive(Clone, Copy)]
 struct Counts {
     first: usize,
@@ -107,6 +107,7 @@ pub fn part(
 }
 
 // The call by way of a list of words.
+// By hand: the arguments of `hutplan_part`, as C hands them over, and a list of words.
 fn part_by(
     table: &[u8],
     nodes: u64,

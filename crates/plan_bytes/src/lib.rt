@@ -18,6 +18,7 @@ use rooms::{MOST_CORDS, MOST_SERVERS};
 
 // Plan: for each cord a grant, its headroom and the number of the node that holds it (0 for none), and for each server a cap, at the fronts
 // of their lists.
+// By hand: the buffers of `hutplan_plan`, as C hands them over.
 pub fn plan_bytes(
     table: &[u8],
     demands: &[u8],
@@ -83,6 +84,7 @@ impl Figures<1> for PlannedFigures {
 
 // Plan of a table and demands in bytes, at the fronts of lists of words that take any plan, for lists of given lengths. No word of the
 // table or of the demands stands in memory while the deals are made.
+// By hand: these lists pass through `load_bytes` and `plan_loaded`, of which each takes others.
 fn plan_figures(
     table: &[u8],
     demands: &[u8],

@@ -38,6 +38,7 @@ fn take_wants(wants: &[u32], tops: &[u32], headroom: &mut [u32])
 }
 
 // The headroom of each cord, in the place of its ceiling, dealt by the nodes' weights, which come in `amounts`.
+// By hand: the lists of a deal: as one struct they were tried (`deals::by_rank::deal`).
 fn deal_out(
     parents: &[u16],
     all: &[u16],

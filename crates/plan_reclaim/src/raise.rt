@@ -39,6 +39,7 @@ fn take_rises(parents: &[u16], raised: &mut [u64], left: &mut [u32])
         → at left.new n + tree_sum (at parents.now) (length parents.now) (at raised.old) n
         ≡ at left.old n }
 {
+    // By hand: the chips' build takes no `iter().rev()`, whose pointers stand in pairs (chips/portable.awk).
     for n in (0..parents.len()).rev() {
         let more = raised[n];
         left[n] = (u64::from(left[n]) - more) as u32;

@@ -11,7 +11,7 @@ ghost use Rattle.plan_rooms.specs.Planning.{RoomToDeal, SomeRoom, DealtTwice, Pl
 ghost use Rattle.figures.specs.Places.{Zeros};
 
 use deals::by_rank::deal;
-use deals::levels::{NO_CORDS, list_levels};
+use deals::levels::{NO_LEVEL, list_levels};
 use layout::list_nodes;
 use layout::room::Counts;
 use plan_headroom::lend;
@@ -24,6 +24,7 @@ use rooms::lists::CordRow;
 // them. `left` comes with what each limit has over the lows beneath it, and leaves with what it has over the second deal's Requests;
 // `wants` and `cuts` end as those of the second deal, and `caps` come with the servers' needs. What the first deal leaves of the limits,
 // and its marks of cuts, are not used.
+// By hand: the lists of a deal: as one struct they were tried (`deals::by_rank::deal`).
 fn deal_twice(
     parents: &[u16],
     cords: &[CordRow],
@@ -43,7 +44,7 @@ fn deal_twice(
         wants.old caps.old scale
         → DealtTwice r demands result wants.new left.new cuts.new grants.new caps.new }
 {
-    let mut levels = [NO_CORDS; 16];
+    let mut levels = [NO_LEVEL; 16];
     let mut order = [0u16; 1024];
     let mut actives = [[0u16; 512]; 16];
     let mut first_left = [0u32; 512];
@@ -53,7 +54,7 @@ fn deal_twice(
     let n = parents.len();
     let k = nodes.len();
     let v = caps.len();
-    // By hand: std's `copy_from_slice` hands on a pointer beside a length in one value, which the chips' build does not take (chips/portable.awk).
+    // By hand: not `copy_from_slice`: see `figures::copy`.
     figures::copy(left, &mut first_left[..n]);
     figures::copy(caps, &mut usable[..v]);
     list_levels(parents, cords, &mut levels, &mut order[..k], &mut actives);

@@ -12,7 +12,7 @@ use layout::room::{Counts, LoadRefusal, load_room};
 use plan_rooms::plan_loaded;
 use rooms::lists::NO_CORD;
 
-// A list of so many entries, where so many are needed.
+// Whether a list has as many entries as are needed; else its refusal.
 fn enough(list: PlanList, entries: usize, needed: usize) -> Result<(), PlanRefusal>
     ensures long { IfOk result (λ none. needed ≤ entries) }
     ensures short { IfErr result (λ refusal. (entries < needed) × (refusal ≡ PlanRefusal.ListTooShort list needed)) }

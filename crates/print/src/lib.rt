@@ -178,7 +178,7 @@ fn put_server(number: u64, cap: u64, buffer: &mut [u8], start: usize) -> usize
 }
 
 // `cord K node M grant G headroom W held B`.
-// By hand: the figures stand in the order of the line that shows them.
+// By hand: a struct of the five figures would be filled and read once, in the order in which the line shows them.
 fn put_cord(
     number: u64,
     node: u64,
@@ -200,7 +200,7 @@ fn put_cord(
 }
 
 // A word of a line and the figure after it, from a place on.
-// By hand: what `write!` leaves in a buffer that is too short no contract of the library says, and `Put` says every byte of it.
+// By hand: no contract of the library says what `write!` leaves in a buffer that is too short; `Put` says every byte.
 fn put_figure(word: &[u8], figure: u64, buffer: &mut [u8], start: usize) -> usize
     requires start { start ≤ length buffer.old }
     ensures put { Put buffer.old start buffer.new result (labelled word.now figure) }

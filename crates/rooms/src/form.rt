@@ -23,6 +23,7 @@ pub fn scale_of(version: u32) -> u32
 }
 
 // The index of the node at a place, or of what follows the last node.
+// By hand: whether nodes have percents is a parameter of the definitions themselves (`node_index`, `node`, `nodes`).
 pub fn node_index(percents: bool, place: usize) -> usize
     requires place { place < 2 ^ 32 }
     ensures result { result ≡ node_index percents place }

@@ -155,7 +155,7 @@ pub fn read(sheet: &[u8], table: &mut [u32]) -> Result<usize, SheetRefusal>
     // So many words decide, whatever follows them.
     let mut words = [0; DECIDING_WORDS];
     let count = parts::read_words(sheet, &mut words, table.len())?;
-    // By hand: the chips' build takes no `copy_from_slice`, whose pointers stand in pairs (chips/portable.awk).
+    // By hand: not `copy_from_slice`: see `figures::copy`.
     figures::copy(&words[..count], table);
     Ok(count)
 }

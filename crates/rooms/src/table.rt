@@ -32,6 +32,7 @@ fn check_word(w: &[u32], i: usize, low: u32, high: u32) -> Result<(u32, usize), 
 }
 
 // The word at i, a node's percent: 80 or 100.
+// By hand: the 0 is no figure, here and of nodes: so `told` states every part of a table, and one hands on what another gives.
 fn check_percent(w: &[u32], i: usize) -> Result<(u32, usize), SheetRefusal>
     ensures result { result ≡ told nothing (percent true w.now i) }
 {

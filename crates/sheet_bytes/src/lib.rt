@@ -26,7 +26,7 @@ pub fn write_bytes(table: &[u8], sheet: &mut [u8], answer: &mut [u8]) -> u32
 }
 
 // Read by way of a list of words, of which those of an accepted table are stored.
-// By hand: each call has these steps with other lists; one function for all would take each call's own steps as a closure over them.
+// By hand: every C call has these steps with other lists; one function for all would take each call's own steps as a closure over them.
 fn read_by(sheet: &[u8], words: &mut [u32], table: &mut [u8], answer: &mut [u8]) -> u32
     requires deciding { suc most_words ≤ length words.old }
     ensures called { ReadCall sheet.now table.old answer.old result table.new answer.new }

@@ -70,7 +70,7 @@ fn all_of(amount: u32, whole: u64) -> u32
 
 // Whether a child is seen to have all the weight. That is looked at where children are mostly alone; elsewhere the processor
 // would predict it badly, and a division costs less.
-// By hand: `alone` says which of the children's loops asks; a closure in its place would be one that tests and one that does not.
+// By hand: `alone` is a hint that the tree's walk has, a node behind its parent; the watts are the same with either (`HasServed`).
 fn has_all(alone: bool, weight: u64, whole: u64) -> bool
     ensures result { result ≡ alone && eqb weight whole }
 {

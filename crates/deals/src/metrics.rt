@@ -108,8 +108,8 @@ fn marked(mark: u16, level: usize, left: u64, whole: u64) -> u16
     requires level { level < highest_rank }
     ensures result { result ≡ cut_mark mark level left whole }
 {
-    let rank = level as u16 + 1;
-    if left < whole { mark.max(rank) } else { mark }
+    let cut = if left < whole { level as u16 + 1 } else { 0 };
+    mark.max(cut)
 }
 
 // From the last active node to the first: a node's weight is taken and added to its parent's sum, as by `weigh`. Its Request is the starts

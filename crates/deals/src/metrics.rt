@@ -108,8 +108,10 @@ fn marked(mark: u16, level: usize, left: u64, whole: u64) -> u16
     requires level { level < highest_rank }
     ensures result { result ≡ cut_mark mark level left whole }
 {
-    let cut = if left < whole { level as u16 + 1 } else { 0 };
-    mark.max(cut)
+    if left < whole && usize::from(mark) <= level {
+        return level as u16 + 1;
+    }
+    mark
 }
 
 // From the last active node to the first: a node's weight is taken and added to its parent's sum, as by `weigh`. Its Request is the starts

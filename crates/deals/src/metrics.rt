@@ -104,6 +104,7 @@ pub fn weigh(
 }
 
 // The mark of a node's cuts after a level, by what is left of its limit there and its children's weights.
+// By hand: `max` is compiled to a jump, which the processor predicts badly here: with it Plan took up to an eighth longer at 16 ranks.
 fn marked(mark: u16, level: usize, left: u64, whole: u64) -> u16
     requires level { level < highest_rank }
     ensures result { result ≡ cut_mark mark level left whole }

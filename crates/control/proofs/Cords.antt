@@ -164,6 +164,11 @@ stepped_by_all c readings h = go (good_controller c) refl
         ∙ ap (stepped_by c) (all_bad BadController 0 readings)
         ∙ stepped_bad_controller c readings bad
 
+-- The same of four cords.
+pub stepped_by_four : (c : Controller) (first second third fourth : Reading)
+    → stepped_by c (judged_with (judged_with (judged_with (judged_with (judged_first c) 0 first) 1 second) 2 third) 3 fourth) ≡ stepped c (first ∷ second ∷ third ∷ fourth ∷ [])
+stepped_by_four c first second third fourth = stepped_by_all c (first ∷ second ∷ third ∷ fourth ∷ []) (omega arith)
+
 -- Four readings are those at their places.
 pub judged_four : (j : JudgedCords) (readings : List Reading) (d : Reading) → length readings ≡ 4
     → judged_all j 0 readings

@@ -9,7 +9,7 @@ use Rattle.rooms.specs.Part.{Good}
 use Rattle.rooms.specs.Table.{most_servers, most_cords}
 use Rattle.rooms.specs.Limits.{checked}
 use Rattle.rooms.proofs.Accepted.{accepted}
-use Rattle.rooms.specs.Rows.{ServersFit, CordsFit, no_server_row, no_cord_row}
+use Rattle.rooms.specs.Rows.{ServersFit, CordsFit}
 
 -- The front of a list of equal rows.
 front : {A : Type 0} (most n : ℕ) (row : A) → n ≤ most → length (take n (replicate most row)) ≡ n
@@ -20,18 +20,18 @@ module _ (table : List ℕ) (g : Good (checked table 0)) {n : ℕ} where
     pub servers_few : n ≤ most_servers
     servers_few = omega (arith, fit g.value g.next g.is, (accepted table g.value g.next g.is).few_servers)
 
-    pub servers-front : n ≡ length (take n (replicate most_servers no_server_row))
-    servers-front = sym (front most_servers n no_server_row servers_few)
+    pub servers-front : {A : Type 0} (row : A) → n ≡ length (take n (replicate most_servers row))
+    servers-front row = sym (front most_servers n row servers_few)
 
-    pub servers-lent : ServersFit table (length (take n (replicate most_servers no_server_row)))
-    servers-lent r end is = sym servers-front ∙ fit r end is
+    pub servers-lent : {A : Type 0} (row : A) → ServersFit table (length (take n (replicate most_servers row)))
+    servers-lent row r end is = sym (servers-front row) ∙ fit r end is
 
   module _ (fit : CordsFit table n) where
     pub cords_few : n ≤ most_cords
     cords_few = omega (arith, fit g.value g.next g.is, (accepted table g.value g.next g.is).few_cords)
 
-    pub cords-front : n ≡ length (take n (replicate most_cords no_cord_row))
-    cords-front = sym (front most_cords n no_cord_row cords_few)
+    pub cords-front : {A : Type 0} (row : A) → n ≡ length (take n (replicate most_cords row))
+    cords-front row = sym (front most_cords n row cords_few)
 
-    pub cords-lent : CordsFit table (length (take n (replicate most_cords no_cord_row)))
-    cords-lent r end is = sym cords-front ∙ fit r end is
+    pub cords-lent : {A : Type 0} (row : A) → CordsFit table (length (take n (replicate most_cords row)))
+    cords-lent row r end is = sym (cords-front row) ∙ fit r end is

@@ -6,16 +6,16 @@ pub slice_bounds-servers-end : goal.slice_bounds-servers-end
 slice_bounds-servers-end c = servers_few _ c.requires.good c.server_count-server_count.ensures.count
 
 pub slice_bounds-plan_by-end : goal.slice_bounds-plan_by-end
-slice_bounds-plan_by-end c = servers-front _ c.requires.good c.server_count-server_count.ensures.count
+slice_bounds-plan_by-end c = servers-front _ c.requires.good c.server_count-server_count.ensures.count _
 
 pub slice_bounds-cords-end : goal.slice_bounds-cords-end
 slice_bounds-cords-end c = cords_few _ c.requires.good c.cord_count-cord_count.ensures.count
 
 pub slice_bounds-plan_by-end-2 : goal.slice_bounds-plan_by-end-2
-slice_bounds-plan_by-end-2 c = cords-front _ c.requires.good c.cord_count-cord_count.ensures.count
+slice_bounds-plan_by-end-2 c = cords-front _ c.requires.good c.cord_count-cord_count.ensures.count _
 
 pub plan_by-requires-clause-sizes : goal.plan_by-requires-clause-sizes
 plan_by-requires-clause-sizes c = (
-  servers-lent _ c.requires.good c.server_count-server_count.ensures.count,
-  cords-lent _ c.requires.good c.cord_count-cord_count.ensures.count,
+  servers-lent _ c.requires.good c.server_count-server_count.ensures.count _,
+  cords-lent _ c.requires.good c.cord_count-cord_count.ensures.count _,
 )

@@ -84,8 +84,16 @@ pub fn refusal<R: Refusal>(refusal: R, buffer: &mut [u8]) -> usize
     ensures put { Put buffer.old 0 buffer.new result (refused_line (R.number_of refusal) (R.place_of refusal)) }
     ensures counts { IsPrefixLen result buffer.new }
 {
-    let a = put_figure(b"refused ", refusal.number(), buffer, 0);
-    let b = put_figure(b" at ", refusal.place(), buffer, a);
+    refused(refusal.number(), refusal.place(), buffer)
+}
+
+// The print of a refusal by its number and its place, whatever they are: as much as fits. The result is how many bytes that is.
+pub fn refused(number: u64, place: u64, buffer: &mut [u8]) -> usize
+    ensures put { Put buffer.old 0 buffer.new result (refused_line number place) }
+    ensures counts { IsPrefixLen result buffer.new }
+{
+    let a = put_figure(b"refused ", number, buffer, 0);
+    let b = put_figure(b" at ", place, buffer, a);
     put(b"\n", buffer, b)
 }
 

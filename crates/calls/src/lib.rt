@@ -1,7 +1,8 @@
 // The answer of a C call: numbers of eight bytes each, low byte first, at the front of its buffer.
 #![tactic(auto)]
 
-ghost use Rattle.std.specs.Prelude.{◌≡◌, List, [], ◌∷◌, ℕ, ◌+◌, ◌*◌, ◌≤◌, length};
+ghost use Rattle.std.specs.Prelude.{◌≡◌, List, [], ◌∷◌, ℕ, ◌+◌, ◌*◌, ◌<◌, ◌≤◌, length};
+ghost use Rattle.std.specs.Bool.{OnTrue, OnFalse};
 ghost use Rattle.std.proofs.lemmas.List.Edits.{sets};
 ghost use Rattle.calls.specs.Call.{answer_bytes, answered, told_numbers};
 
@@ -53,7 +54,7 @@ pub fn tell<const N: usize, A: Figures<N>, R: Refusal>(answer: Result<A, R>, buf
     match answer {
         Ok(result) => tell_figures(result, buffer),
         Err(refusal) => {
-            if N < buffer.len() / 8 {
+            if holds::<N>(buffer) {
                 store(&[refusal.number(), refusal.place()], buffer, 0);
             }
         }
@@ -64,11 +65,23 @@ pub fn tell<const N: usize, A: Figures<N>, R: Refusal>(answer: Result<A, R>, buf
 pub fn tell_figures<const N: usize, A: Figures<N>>(told: A, buffer: &mut [u8])
     ensures told { buffer.new ≡ answered (N + 1) (0 ∷ A.figures_of told) buffer.old }
 {
-    if buffer.len() / 8 <= N {
+    if !holds::<N>(buffer) {
         return;
     }
     store(&[0], buffer, 0);
     store(&told.figures(), buffer, 8);
+}
+
+// Whether a buffer has space for an answer of up to N + 1 numbers.
+fn holds<const N: usize>(buffer: &[u8]) -> bool
+    ensures long { OnTrue result (8 * (N + 1) ≤ length buffer.now) }
+    ensures short { OnFalse result (length buffer.now < 8 * (N + 1)) }
+{
+    match N {
+        1 => ANSWER_BYTES <= buffer.len(),
+        2 => LONG_ANSWER_BYTES <= buffer.len(),
+        _ => N < buffer.len() / 8,
+    }
 }
 
 // Numbers, one after the other, from a place of a buffer that has space for them.

@@ -78,7 +78,7 @@ fn print_table(
             };
             print::plan(freed, table, lists, buffer)
         }
-        Err(refusal) => print::refusal(refusal, buffer),
+        Err(refusal) => print::refused(refusal, buffer),
     }
 }
 
@@ -90,7 +90,7 @@ fn print_sheet(sheet: &[u8], demands: &[u32], table: &mut [u32], buffer: &mut [u
 {
     let count = match rooms::read(sheet, table) {
         Ok(count) => count,
-        Err(refusal) => return print::refusal(refusal, buffer),
+        Err(refusal) => return print::refused(refusal, buffer),
     };
     let mut grants = [0u32; 1024];
     let mut caps = [0u32; 512];

@@ -18,7 +18,7 @@ fn print_text(text: &[u8], table: &mut [u32], buffer: &mut [u8]) -> Result<usize
 {
     let count = match schedules::schedule(text, table) {
         Ok(count) => count,
-        Err(refusal) => return Err(print::refusal(refusal, buffer)),
+        Err(refusal) => return Err(print::refused(refusal, buffer)),
     };
     // The table of a schedule is never refused (`ScheduleGivesRoom`).
     Ok(rooms::write(&table[..count], buffer).unwrap())

@@ -354,7 +354,7 @@ module _ {parents spare nodes levels lows wants grants : List ℕ} (of_nodes : N
         same n = sum_cong (length parents) _ _ (λ m l. ap (on (Rattle.rooms.specs.Trees.beneath (at parents) (length parents) n (suc m))) (noted m (omega (arith, of_nodes.few))).watts_are)
 
 -- Nothing is noted before the first cord.
-pub unnoted : (wanting : List ℕ) → ((n : ℕ) → at wanting n ≡ 0)
-    → Unnoted most_nodes (notes_in (replicate most_nodes 0) (replicate most_nodes highest_rank) wanting)
-unnoted wanting none n l =
-    noted_same noted_none (λ j q. refl) (λ j q. refl) (zeros-at most_nodes n) (get_or-replicate {A = ℕ} most_nodes n highest_rank 0 l) (none n)
+pub unnoted : (k : ℕ) (wanting : List ℕ) → ((n : ℕ) → at wanting n ≡ 0) → (count : ℕ) → count ≤ k
+    → Unnoted count (notes_in (replicate k 0) (replicate k highest_rank) wanting)
+unnoted k wanting none count h n l =
+    noted_same noted_none (λ j q. refl) (λ j q. refl) (zeros-at k n) (get_or-replicate {A = ℕ} k n highest_rank 0 (omega arith)) (none n)

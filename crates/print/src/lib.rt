@@ -80,21 +80,21 @@ fn put_plan(
 }
 
 // The print of a refusal, at the front of the buffer: as much as fits. The result is how many bytes that is.
-pub fn refusal<R: Refusal>(refusal: R, buffer: &mut [u8]) -> usize
-    ensures put { Put buffer.old 0 buffer.new result (refused_line (R.number_of refusal) (R.place_of refusal)) }
-    ensures counts { IsPrefixLen result buffer.new }
-{
-    refused(refusal.number(), refusal.place(), buffer)
-}
-
-// The print of a refusal by its number and its place, whatever they are: as much as fits. The result is how many bytes that is.
-pub fn refused(number: u64, place: u64, buffer: &mut [u8]) -> usize
+pub fn refusal(number: u64, place: usize, buffer: &mut [u8]) -> usize
     ensures put { Put buffer.old 0 buffer.new result (refused_line number place) }
     ensures counts { IsPrefixLen result buffer.new }
 {
     let a = put_figure(b"refused ", number, buffer, 0);
-    let b = put_figure(b" at ", place, buffer, a);
+    let b = put_figure(b" at ", place as u64, buffer, a);
     put(b"\n", buffer, b)
+}
+
+// The print of any refusal, by its number and its place.
+pub fn refused<R: Refusal>(why: R, buffer: &mut [u8]) -> usize
+    ensures put { Put buffer.old 0 buffer.new result (refused_line (R.number_of why) (R.place_of why)) }
+    ensures counts { IsPrefixLen result buffer.new }
+{
+    refusal(why.number(), why.place() as usize, buffer)
 }
 
 // The lines of all servers and their cords.

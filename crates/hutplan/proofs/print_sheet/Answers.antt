@@ -16,7 +16,7 @@ accepted c = sheet_accepted c.args.sheet.now c.args.demands.now c.args.table.now
 pub returns-in-Err-clause-printed : goal.returns-in-Err-clause-printed
 returns-in-Err-clause-printed c =
     let is = sheet_refused c.args.sheet.now c.args.demands.now _ c.requires.sizes.0 c.in-Err.ensures.result in
-    whole _ _ (rw (← is) at c.refusal.ensures.put) c.requires.sizes.1
+    whole _ _ (rw (← is) at c.refused.ensures.put) c.requires.sizes.1
 
 pub slice_bounds-print_table-end : goal.slice_bounds-print_table-end
 slice_bounds-print_table-end c = (accepted (goal.at.slice_bounds-print_table-end c).In-Ok).0

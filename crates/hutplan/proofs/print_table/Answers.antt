@@ -21,4 +21,4 @@ returns-in-Ok-clause-put c =
 pub returns-in-Err-clause-put : goal.returns-in-Err-clause-put
 returns-in-Err-clause-put c =
     let is = table_refused c.args.table.now c.args.demands.now (lists c.args.grants.now c.args.caps.now c.args.headroom.now c.args.held.now) c.requires.sizes c.in-Err.ensures.done.answer_is in
-    rw (← is) at c.refusal.ensures.put
+    rw (← is) at c.refused.ensures.put

@@ -9,7 +9,7 @@ table : (c : In-Ok) → Stands c.args.text.now c.schedule.new.table c.in-Ok.coun
 table c = stands c.args.text.now c.args.table.now c.requires.sizes.0 c.in-Ok.ensures.answer c.in-Ok.ensures.table
 
 pub returns-in-Err-clause-printed : goal.returns-in-Err-clause-printed
-returns-in-Err-clause-printed c = text_refused _ _ c.requires.sizes.0 c.requires.sizes.1 c.in-Err.ensures.answer c.refusal.ensures.put
+returns-in-Err-clause-printed c = text_refused _ _ c.requires.sizes.0 c.requires.sizes.1 c.in-Err.ensures.answer c.refused.ensures.put
 
 pub slice_bounds-write-end : goal.slice_bounds-write-end
 slice_bounds-write-end c = (table (goal.at.slice_bounds-write-end c).In-Ok).fits

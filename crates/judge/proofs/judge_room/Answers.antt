@@ -27,7 +27,7 @@ pass c r end is =
     }
 
 pub note_cords-faults-requires-clause-unnoted : goal.note_cords-faults-requires-clause-unnoted
-note_cords-faults-requires-clause-unnoted c = (zeros-at most_nodes, λ n l. unnoted (replicate most_nodes 0) (zeros-at most_nodes) n (omega (arith, l, length-replicate {A = ℕ} most_nodes 0)))
+note_cords-faults-requires-clause-unnoted c = (zeros-at most_nodes, λ n l. unnoted most_nodes (replicate most_nodes 0) (zeros-at most_nodes) most_nodes (omega arith) n (omega (arith, l, length-replicate {A = ℕ} most_nodes 0)))
 
 pub returns-in-Some : goal.returns-in-Some
 returns-in-Some c =

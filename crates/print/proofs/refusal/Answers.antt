@@ -1,5 +1,8 @@
--- `refusal` meets its contract: its number and its place are printed.
+-- `refusal` meets its contract: each figure is put where the one before it ends.
+use Rattle.print.specs.Line.{refused_line}
+use Rattle.print.proofs.Putting.{then}
 use Rattle.print.proofs.refusal.Goals as goal
 
 pub returns-clause-put : goal.returns-clause-put
-returns-clause-put g c = rw (c.number.ensures.result, c.place.ensures.result) at c.refused.ensures.put
+unfolding refused_line
+returns-clause-put c = then c.put_figure-a.ensures.put (then c.put_figure-b.ensures.put c.put.ensures.put)

@@ -1,8 +1,5 @@
--- `refused` meets its contract: each figure is put where the one before it ends.
-use Rattle.print.specs.Line.{refused_line}
-use Rattle.print.proofs.Putting.{then}
+-- `refused` meets its contract: its number and its place are printed.
 use Rattle.print.proofs.refused.Goals as goal
 
 pub returns-clause-put : goal.returns-clause-put
-unfolding refused_line
-returns-clause-put c = then c.put_figure-a.ensures.put (then c.put_figure-b.ensures.put c.put.ensures.put)
+returns-clause-put g c = rw (c.number.ensures.result, c.place.ensures.result) at c.refusal.ensures.put

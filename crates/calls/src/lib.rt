@@ -72,7 +72,7 @@ pub fn tell_figures<const N: usize, A: Figures<N>>(told: A, buffer: &mut [u8])
     store(&told.figures(), buffer, 8);
 }
 
-// Whether a buffer has space for an answer of up to N + 1 numbers.
+// Whether a buffer has space for an answer of up to N + 1 numbers: by the named sizes where there is one, as the C calls test it.
 fn holds<const N: usize>(buffer: &[u8]) -> bool
     ensures long { OnTrue result (8 * (N + 1) ≤ length buffer.now) }
     ensures short { OnFalse result (length buffer.now < 8 * (N + 1)) }

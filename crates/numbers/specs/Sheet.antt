@@ -61,7 +61,8 @@ fitted size space = cond (leb size space) (Ok size) (Err (TooShort size))
 
 -- What becomes of words that are to stand in a sheet with space for so many bytes.
 abbrev pub written : List ℕ → ℕ → Result ℕ Unwritten
-written words space = cond (ltb (first_formless words) (length words)) (Err (TooLarge (first_formless words))) (fitted (length (bytes_of words)) space)
+written words space =
+    cond (ltb (first_formless words) (length words)) (Err (TooLarge (first_formless words))) (fitted (length (bytes_of words)) space)
 
 -- The sheet after that answer: words that were not written left it unchanged.
 abbrev pub after_encode_sheet : Result ℕ Unwritten → List ℕ → List ℕ → List ℕ
